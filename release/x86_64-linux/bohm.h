@@ -25,7 +25,7 @@
 
 /* The version, and the checksum of the sources that the library is built from. */
 #define BOHM_VERSION "0.1.0"
-#define BOHM_SOURCES "039a2fed6e20defbe6b0445cf0eb259295f67ba0453d8f1e8cffede5a03d814d"
+#define BOHM_SOURCES "c735b38c9fc72de4dfa8aafd4bd0fae847d7794debf496fb9be467a129d416fc"
 
 /* The version and the checksum of the library that the program is linked with. */
 extern const char bohm_version[16], bohm_sources[65];

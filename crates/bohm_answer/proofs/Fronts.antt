@@ -5,14 +5,9 @@ use Rattle.std.specs.Prelude.{Option}
 use Rattle.std.proofs.lemmas.List.{take_all, take-append-drop}
 use Rattle.std.proofs.Math.Seq.{take-add}
 use Rattle.std.specs.Io.KnownBytes.{Appends}
+use Rattle.std.proofs.KnownBytes.{Appends-trans}
 use Rattle.bohm_answer.specs.Bytes.{Sends}
 use Rattle.bohm_answer.specs.FaultLine.{AppendsFront}
-
-pub joined : (a b c : Option (List ℕ)) (x y : List ℕ) → Appends a b x → Appends b c y → Appends a c (x ++ y)
-joined None b c x y first then = tt
-joined (Some xs) None c x y first then = absurd first
-joined (Some xs) (Some ys) None x y first then = then
-joined (Some xs) (Some ys) (Some zs) x y first then = then ∙ ap (λ (w : List ℕ). w ++ y) first ∙ append_assoc xs x y
 
 pub wider : (a b : Option (List ℕ)) (x y : List ℕ) → AppendsFront a b x → AppendsFront a b (x ++ y)
 wider a b x y h = record { front = h.front; rest = h.rest ++ y; whole = ap (λ (w : List ℕ). w ++ y) h.whole ∙ append_assoc h.front h.rest y; wrote = h.wrote }
@@ -22,16 +17,12 @@ behind a b c x y first h = record {
   front = x ++ h.front;
   rest = h.rest;
   whole = ap (λ (w : List ℕ). x ++ w) h.whole ∙ sym (append_assoc x h.front h.rest);
-  wrote = joined a b c x h.front first h.wrote;
+  wrote = Appends-trans a b c x h.front first h.wrote;
 }
-
-pub on_err : {A E : Type 0} (P : Type 0) (r : Result A E) → P → OnErr r P
-on_err P (Ok v) h = tt
-on_err P (Err e) h = h
 
 module _ {A E : Type 0} (a b c : Option (List ℕ)) (x y : List ℕ) (first : Appends a b x) where
   pub then_ok : (r : Result A E) → OnOk r (Appends b c y) → OnOk r (Appends a c (x ++ y))
-  then_ok (Ok v) h = joined a b c x y first h
+  then_ok (Ok v) h = Appends-trans a b c x y first h
   then_ok (Err e) h = tt
 
   pub then_err : (r : Result A E) → OnErr r (AppendsFront b c y) → OnErr r (AppendsFront a c (x ++ y))

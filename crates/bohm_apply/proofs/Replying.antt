@@ -1,7 +1,7 @@
 -- The replies of a batch, one transaction after another.
 use Rattle.std.proofs.Common.{◌≡◌, ℕ, zero, suc, ◌+◌, ◌<◌, ◌≤◌, List, [], ◌∷◌, ◌++◌, length, take, drop, get_or, Some}
 use Rattle.std.proofs.Common.{None, Ok, Err, refl, sym, ap, ◌∙◌, arith, ⊎_elim}
-use Rattle.std.specs.Prelude.{ℤ, Option, Result, OnErr}
+use Rattle.std.specs.Prelude.{ℤ, Option}
 use Rattle.std.specs.List.{slice_get}
 use Rattle.std.proofs.lemmas.List.{take_all, take_more}
 use Rattle.std.proofs.lemmas.Option.{get_or_from_slice_get, same_Some, slice_get_cases, slice_get_within}
@@ -65,9 +65,3 @@ pub next_reply : (look : Look) (txns : List Txn) (from i : ℕ) (x : Txn) → sl
 next_reply look txns from i x here =
     let r = reply_of (body (state look txns (from + i)) x) in
     next_taken (drop from (replies look txns)) i r (get_drop from i (replies look txns) ∙ reply_at look txns (from + i) x here)
-
--- ---- a fact that doesn't depend on the result also holds on an error
-
-pub on_err : {A E P : Type 0} (r : Result A E) → P → OnErr r P
-on_err (Ok x) p = tt
-on_err (Err e) p = p

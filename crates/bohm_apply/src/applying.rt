@@ -174,12 +174,12 @@ fn apply_on<L: Line + Send + Sync, P: Partition, G: Gate, R: Threads + Wait + Sy
 /// a batch, and the replies up to there are returned: nothing is lost, and the rest can be applied
 /// again.
 ///
-/// The time grows with the terms of the transactions, which are spread over the executing workers
-/// if bodies don't wait for one another. On the executing side's single thread it also grows with
-/// the number of the log's keys, with the number of keys that each batch declares, and, if there
-/// are several workers, with the start of threads for each batch. The memory grows with the number
-/// of the log's keys, on the planning side once for each worker, and with the values that the
-/// transactions show.
+/// The time grows with the terms of the transactions and with their replies, which are spread over
+/// the executing workers if bodies don't wait for one another. On the executing side's single
+/// thread it also grows with the number of the log's keys, with the number of writes that each
+/// batch declares, with the replies, which it joins, and, if there are several workers, with the
+/// start of threads for each batch. The memory grows with the number of the log's keys, on the
+/// planning side once for each worker, and with the values that the transactions show.
 pub fn apply<P: Partition, G: Gate, R: Threads + Wait + Sync>(
     rt: &R,
     alloc: Global,

@@ -1,10 +1,8 @@
 //! The executing side: it runs batch after batch, as their plans arrive.
 
-ghost use Rattle.std.specs.Prelude.{◌≡◌, ◌+◌, ◌<◌, ◌≤◌, ◌^◌, List, All, length, IsSome, IfOk, OnOk, OnErr};
-ghost use Rattle.bohm_txn.specs.Faulty.{IsWellFormedTxn};
+ghost use Rattle.std.specs.Prelude.{◌≡◌, ◌+◌, ◌<◌, ◌≤◌, List, All, length, IsSome, IfOk, OnOk, OnErr};
 ghost use Rattle.bohm_txn.specs.Serial.{replies};
 ghost use Rattle.bohm_txn.specs.declared.outcome.Reply.{Reply};
-ghost use Rattle.bohm_place.specs.Plans.{IsRightPlan};
 ghost use Rattle.bohm_place.specs.CutLogs.{cutting_of};
 ghost use Rattle.bohm_place.specs.Cuttings.{ArePlans};
 ghost use Rattle.bohm_board.specs.Bases.{IsBatched};
@@ -15,7 +13,6 @@ ghost use Rattle.bohm_apply.specs.Progresses.{IsWalkOf};
 ghost use Rattle.bohm_apply.specs.Replies.{IsEvaluated};
 ghost use Rattle.bohm_apply.specs.Runs.{IsApplied};
 ghost use Rattle.bohm_apply.specs.Sides.{CanExecute};
-ghost use Rattle.bohm_types.specs.Limits.{largest_batch};
 
 use crate::plan_queue::{Line, PlanReceiver};
 use crate::settling::settle_batch;
@@ -93,12 +90,8 @@ impl Executor {
         plan: Plan,
         gate: &G,
     ) -> Result<(), NoMemory>
-        requires some { 0 < length txns.now }
-        requires few { length txns.now ≤ largest_batch }
-        requires timestamps { history.old.top + 1 + length txns.now ≤ 2 ^ 32 }
-        requires formed { All IsWellFormedTxn txns.now }
+        requires batched { IsBatched txns.now plan }
         requires first { plan.first ≡ history.old.top + 1 }
-        requires right { ∥ IsRightPlan txns.now plan ∥₁ }
         ensures keep { self.new.keep ≡ self.old.keep }
         ensures applied { OnOk result (IsApplied history.old history.new txns.now self.old.keep
             (replies (past history.old history.old.top) txns.now)) }
@@ -138,12 +131,8 @@ impl Executor {
         plan: Plan,
         gate: &G,
     ) -> Result<(), NoMemory>
-        requires some { 0 < length txns.now }
-        requires few { length txns.now ≤ largest_batch }
-        requires timestamps { history.old.top + 1 + length txns.now ≤ 2 ^ 32 }
-        requires formed { All IsWellFormedTxn txns.now }
+        requires batched { IsBatched txns.now plan }
         requires first { plan.first ≡ history.old.top + 1 }
-        requires right { ∥ IsRightPlan txns.now plan ∥₁ }
         ensures keep { self.new.keep ≡ self.old.keep }
         ensures applied { OnOk result (IsApplied history.old history.new txns.now self.old.keep
             (replies (past history.old history.old.top) txns.now)) }

@@ -29,7 +29,7 @@ const FEWEST: u32 = 256;
 #[derive(Drop)]
 pub(crate) struct SettledShare<S: ReplySink> {
     replies: S,
-    listed: ListedWrites,
+    writes: ListedWrites,
 }
 
 /// The number of transactions in each range, if there are this many workers.
@@ -53,12 +53,12 @@ fn settle_share<S: ReplySink + Drop>(
     requires { from ≤ length (txns_of (batch_of_finished finished.now)) }
     ensures replies { IfOk result
         (λ share. IsShareFrom S.is_bare S.appended finished.now from count share.replies) }
-    ensures listed { IfOk result (λ share. AreListedFrom (keys_of history.now.chains)
-        (batch_of_finished finished.now) from count share.listed) }
+    ensures writes { IfOk result (λ share. AreListedFrom (keys_of history.now.chains)
+        (batch_of_finished finished.now) from count share.writes) }
 {
     Ok(SettledShare {
         replies: replies_from(alloc, finished, from, count)?,
-        listed: history.list_writes(alloc, hints, finished, from, count)?,
+        writes: history.list_writes(alloc, hints, finished, from, count)?,
     })
 }
 
@@ -79,9 +79,9 @@ fn settle_shares<S: ReplySink + Send + Drop, R: Threads + Sync>(
     ensures replies { IfOk result (λ shares. (i : ℕ) (d : _) → i < length shares.items
         → IfOk (slice_index_or shares.items i d)
         (λ share. IsShareFrom S.is_bare S.appended finished.now (i * size) size share.replies)) }
-    ensures listed { IfOk result (λ shares. (i : ℕ) (d : _) → i < length shares.items
+    ensures writes { IfOk result (λ shares. (i : ℕ) (d : _) → i < length shares.items
         → IfOk (slice_index_or shares.items i d) (λ share. AreListedFrom (keys_of history.now.chains)
-        (batch_of_finished finished.now) (i * size) size share.listed)) }
+        (batch_of_finished finished.now) (i * size) size share.writes)) }
 {
     let count = finished.len().div_ceil(size);
     let shares = thread::map_indices(
@@ -93,8 +93,8 @@ fn settle_shares<S: ReplySink + Send + Drop, R: Threads + Sync>(
             requires inside { index * size < length (txns_of (batch_of_finished finished.now)) }
             ensures replies { IfOk result (λ share. IsShareFrom S.is_bare S.appended
                 finished.entry.now (index * size) size share.replies) }
-            ensures listed { IfOk result (λ share. AreListedFrom (keys_of history.entry.now.chains)
-                (batch_of_finished finished.entry.now) (index * size) size share.listed) }
+            ensures writes { IfOk result (λ share. AreListedFrom (keys_of history.entry.now.chains)
+                (batch_of_finished finished.entry.now) (index * size) size share.writes) }
         { settle_share(alloc, history, hints, finished, index as u32 * size, size) },
     )?;
     Ok(shares)
@@ -127,10 +127,7 @@ pub(crate) fn settle_batch<S: ReplySink + Send + Drop, R: Threads + Sync>(
     let shares = settle_shares(rt, alloc, history, hints, finished, size)?;
     let mut listed = Vec::with_capacity(alloc, shares.len())?;
     for share in shares {
-        let SettledShare {
-            replies,
-            listed: writes,
-        } = share?;
+        let SettledShare { replies, writes } = share?;
         answered.append(replies)?;
         listed.push(writes)?;
     }

@@ -1,19 +1,18 @@
 -- The indices of declared keys among the entries of a base.
-use Rattle.std.proofs.Common.{◌≡◌, ℕ, suc, ◌*◌, ◌<◌, ◌≤◌, true, false, List, [], ◌∷◌, ◌++◌, length}
+use Rattle.std.proofs.Common.{◌≡◌, ℕ, suc, ◌*◌, ◌<◌, ◌≤◌, true, List, [], ◌∷◌, ◌++◌, length}
 use Rattle.std.proofs.Common.{slice_get, get_or, Some, refl, sym, ◌∙◌, arith, All, length-append}
-use Rattle.std.specs.List.{list_any, AllByRecursion, IsDistinct}
+use Rattle.std.specs.List.{list_any}
 use Rattle.std.specs.Str.{bytes_eq}
 use Rattle.std.specs.Cmp.Lexicographic.{nat_list_eq_equiv}
-use Rattle.std.proofs.lemmas.Bool.{false_from_ne_true}
 use Rattle.std.proofs.lemmas.List.{length-map}
 use Rattle.std.proofs.lemmas.List.Folds.{list_any-append}
 use Rattle.std.proofs.lemmas.Map.Made.{length-le_from_is_member}
 use Rattle.std.proofs.lemmas.Option.{slice_get-get_or, slice_get_within}
 use Rattle.bohm_types.specs.declared.cell.Cell.{Cell}
 use Rattle.bohm_types.specs.Txn.{Txn}
-use Rattle.bohm_types.specs.Keys.{IsAmong, is_among, rising}
+use Rattle.bohm_types.specs.Keys.{is_among}
 use Rattle.bohm_txn.specs.Faulty.{IsWellFormedTxn}
-use Rattle.bohm_txn.proofs.ForCallers.{AllApart, rising_apart, among_first, among_then, other_key, usable}
+use Rattle.bohm_txn.proofs.ForCallers.{usable}
 use Rattle.bohm_place.specs.declared.access.Access.{Access}
 use Rattle.bohm_place.specs.declared.access.Source.TheVariants.{Before}
 use Rattle.bohm_place.specs.declared.declared_set.DeclaredSet.{DeclaredSet}
@@ -30,21 +29,6 @@ abbrev pub Entries : Type 0
 Entries = List (List ℕ × Cell)
 
 -- ---- a base has at most 32 entries per transaction
-
-apart_each : (x : List ℕ) (ks : List (List ℕ)) → ¬ IsAmong ks x → AllByRecursion (λ y. bytes_eq x y ≡ false) ks
-apart_each x [] h = tt
-apart_each x (k ∷ ks) h = (
-  other_key k x (false_from_ne_true (bytes_eq k x) (λ e. h (among_first k x ks e))),
-  apart_each x ks (λ among. h (among_then k x ks among)),
-)
-
-distinct_apart : (ks : List (List ℕ)) → AllApart ks → IsDistinct bytes_eq ks
-unfolding IsDistinct
-distinct_apart [] h = tt
-distinct_apart (k ∷ ks) h = (apart_each k ks h.0, distinct_apart ks h.1)
-
-pub rising_distinct : (ks : List (List ℕ)) → rising ks ≡ true → IsDistinct bytes_eq ks
-rising_distinct ks h = distinct_apart ks (rising_apart ks h)
 
 pub member_among : (ks : List (List ℕ)) (k : List ℕ) → list_any (bytes_eq k) ks ≡ is_among ks k
 member_among [] k = refl

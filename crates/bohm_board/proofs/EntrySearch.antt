@@ -78,7 +78,7 @@ newest_missing (e ∷ es) k before h =
     let (first, rest) = or_parts (bytes_eq e.0 k) (is_among (keys_of es) k) h in
     rw first (newest_missing es k before rest)
 
-none_equal : (ks : List (List ℕ)) (k : List ℕ) → AllByRecursion (λ y. bytes_eq k y ≡ false) ks → is_among ks k ≡ false
+pub none_equal : (ks : List (List ℕ)) (k : List ℕ) → AllByRecursion (λ y. bytes_eq k y ≡ false) ks → is_among ks k ≡ false
 none_equal [] k h = refl
 none_equal (x ∷ ks) k h = rw (other_key k x h.0) (none_equal ks k h.1)
 

@@ -6,12 +6,13 @@ pub use Rattle.bohm_board.proofs.Monotonicity.{keeps_joined, still_done, still_k
 -- a batch's transactions, accesses and wanted sources
 pub use Rattle.bohm_board.proofs.SlotNumbers.{txn_there, width_there}
 pub use Rattle.bohm_board.proofs.WantedSources.{keys_paired, reads_paired, writes_paired, IsEarlier, in_either, wanted_earlier}
-pub use Rattle.bohm_board.proofs.BasePlaces.{member_among, declared_any, rising_distinct}
+pub use Rattle.bohm_board.proofs.BasePlaces.{member_among, declared_any}
+pub use Rattle.bohm_board.proofs.EntrySearch.{none_equal}
 pub use Rattle.bohm_board.proofs.Evaluation.{contains_at}
 -- the right outcome and cells of a position, and the cells before it
 pub use Rattle.bohm_board.proofs.Inputs.{own_right, outcome_right, reads_before, writes_before}
-pub use Rattle.bohm_board.proofs.SerialSlots.{own_write, own_show}
+pub use Rattle.bohm_board.proofs.SerialSlots.{own_write, own_show, get_left}
 -- the core: its runs, and the outcome and cells of a position over its input
 pub use Rattle.bohm_board.proofs.EventRuns.{reached_lawful, reached_stays, claimed_once, finished_once}
-pub use Rattle.bohm_board.proofs.BoardLaw.{wanted_filled}
+pub use Rattle.bohm_board.proofs.BoardLaw.{wanted_filled, nothing_in}
 pub use Rattle.bohm_board.proofs.Evaluation.{read_by_access, write_by_access, sure_wants, outcome_is_right, cell_is_right}

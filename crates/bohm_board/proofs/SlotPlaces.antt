@@ -1,6 +1,6 @@
 -- The transaction and index of each slot number, and the number of each position's first slot.
 use Rattle.std.proofs.Common.{◌≡◌, ℕ, zero, suc, ◌+◌, ◌<◌, List, [], ◌∷◌, ◌++◌, length, Some, refl}
-use Rattle.std.proofs.Common.{ap, sym, ◌∙◌, arith, inl, inr, ◌-◌, get_or, add-one, below_more}
+use Rattle.std.proofs.Common.{ap, sym, ◌∙◌, arith, inl, inr, ◌-◌}
 use Rattle.std.specs.Prelude.{◌⊎◌}
 use Rattle.std.specs.List.{slice_get}
 use Rattle.std.proofs.lemmas.Option.{same_Some, slice_get_within}
@@ -14,7 +14,6 @@ use Rattle.bohm_place.specs.Slots.{width, offset}
 use Rattle.bohm_board.specs.Serial.{own_cells, slot_at, slots_of, slots_from}
 use Rattle.bohm_board.specs.Batches.{rights_of, base_of, txns_of, first_of}
 use Rattle.bohm_board.proofs.SerialSlots.{length-own_cells, length-outcomes, length-slots_of, length-slots}
-use Rattle.std.proofs.lemmas.List.{length-append, get_or_append_left, get_or-append_right}
 
 abbrev pub InSecond : {A : Type 0} → List A → List A → ℕ → A → Type 0
 InSecond xs ys p x = (m : ℕ) × (p ≡ length xs + m) × (slice_get ys m ≡ Some x)

@@ -5,7 +5,7 @@ use mathlib.Core.Option.{some, some-injective, some-ne-none}
 use lib.ListN.{get_elem?}
 use mathlib.Core.Logic.{dite}
 use native.Mathlib.Decide.{ℕ_discrete}
-use Rattle.std.proofs.lemmas.List.{set-append_left, set-append_right, get_or_append_left, get_or-append_right, length-append}
+use Rattle.std.proofs.lemmas.List.{set-append_left, set-append_right, get_or_append_left, get_or-append_right, length-append, get_or_past}
 use Rattle.bohm_board.specs.Shown.{Words, all_words, AreShown}
 use Rattle.std.proofs.lemmas.Bool.{cases_lt}
 use Rattle.bohm_board.specs.declared.batch.Batch.{Batch}
@@ -141,11 +141,6 @@ view_put d views f p v w w' shown at e q = put_cases (λ z. z ≡ get_or (set vi
     (λ here. e ∙ sym (ap (λ (j : ℕ). get_or (set views p w') j d) here ∙ get_or-set_same views p w' d (found_at views p v d at).0))
     (λ ne. shown q ∙ sym (get_or-set_other views p q w' d ne))
 
-pub past_end : {A : Type 0} (xs : List A) (i : ℕ) (d : A) → length xs ≤ i → get_or xs i d ≡ d
-past_end [] i d l = refl
-past_end (x ∷ xs) zero d l = absurd (omega arith)
-past_end (x ∷ xs) (suc i) d l = past_end xs i d (omega arith)
-
 -- a new view w is appended
 pub view_added : (d : View) (views : List View) (f : ℕ → View) (w : View) → ((q : ℕ) → f q ≡ get_or views q d) → (q : ℕ)
     → point_update f (length views) w q ≡ get_or (views ++ w ∷ []) q d
@@ -153,5 +148,5 @@ view_added d views f w shown q = put_cases (λ z. z ≡ get_or (views ++ w ∷ [
     (λ here. sym (get_or-append_right views (w ∷ []) (length views) q d refl (omega (arith, here))
     ∙ (let none : q - length views ≡ 0 = omega (arith, here) in ap (λ (j : ℕ). get_or (w ∷ []) j d) none)))
     (λ ne. shown q ∙ ⊎_elim (λ (below : q < length views). sym (get_or_append_left views (w ∷ []) d q below))
-    (λ (past : length views ≤ q). past_end views q d past ∙ sym (past_end (views ++ w ∷ []) q d (omega (arith, length-append views (w ∷ [])))))
+    (λ (past : length views ≤ q). get_or_past views q d past ∙ sym (get_or_past (views ++ w ∷ []) q d (omega (arith, length-append views (w ∷ [])))))
     (cases_lt q (length views)))

@@ -2,6 +2,7 @@
 use Rattle.std.proofs.Common.{◌≡◌, ◌≢◌, ℕ, zero, suc, ◌+◌, ◌*◌, ◌/◌, ◌%◌, ◌<◌, ◌≤◌, ◌∷◌, [], ◌++◌, length}
 use Rattle.std.proofs.Common.{get_or, set, sym, refl, ap, ◌∙◌, subst, arith, Option, None, Some, eqb, length-set}
 use Rattle.std.specs.Prelude.{Contains}
+use Rattle.std.proofs.lemmas.List.{get_or_past}
 use mathlib.Core.Option.{some}
 use lib.ListN.{get_elem?}
 use lib.Seq.{set-get_or}
@@ -31,7 +32,7 @@ use Rattle.bohm_board.proofs.Evaluation.{outcome_is_right, cell_is_right}
 use Rattle.bohm_board.specs.Law.{IsLawful}
 use Rattle.bohm_board.proofs.BoardLaw.{put_cases, wanted_filled}
 use Rattle.bohm_board.proofs.StateUpdates.{found_at, status_in, status_put, presence_in, presence_put, value_in, value_put}
-use Rattle.bohm_board.proofs.StateUpdates.{same_shown, status_shown, presence_shown, value_shown, view_put, view_added, past_end}
+use Rattle.bohm_board.proofs.StateUpdates.{same_shown, status_shown, presence_shown, value_shown, view_put, view_added}
 use Rattle.bohm_board.proofs.SlotNumbers.{number_inside, position_inside}
 use Rattle.bohm_board.proofs.SlotPlaces.{outcomes_long}
 use Rattle.bohm_board.proofs.EventRuns.{reached_lawful}
@@ -273,7 +274,7 @@ module _ (b : Batch) (t : T) (s : State) (p : ℕ) (v : View) (here : IsBefore b
   split_step free =
       let d : View = new_view (rights_of b) in
       let long : length (set t.views p v) ≡ length t.views = length-set t.views p v in record {
-        allowed = (named, ap (λ (w : View). w.held) mine ∙ free, here.shows.views (length t.views) ∙ past_end t.views (length t.views) d (omega arith));
+        allowed = (named, ap (λ (w : View). w.held) mine ∙ free, here.shows.views (length t.views) ∙ get_or_past t.views (length t.views) d (omega arith));
         shows = record {
           words = here.shows.words;
           line = here.shows.line;

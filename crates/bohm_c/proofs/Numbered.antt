@@ -1,6 +1,5 @@
 -- Keys by their numbers: shared keys, and after them a list's own.
 use Rattle.std.proofs.Common.{◌≡◌, ℕ, ◌<◌, List, [], ◌∷◌, ◌++◌, Some, length, ap, sym, ◌∙◌, append_assoc, slice_get, subst}
-use Rattle.std.specs.Prelude.{Result, Ok, Err, OnErr}
 use Rattle.std.specs.List.{position}
 use Rattle.std.specs.Str.{bytes_eq}
 use Rattle.std.proofs.lemmas.List.{get_or_append_left, map-append}
@@ -32,8 +31,3 @@ module _ (xs ys : List (List ℕ)) (ids : List ℕ) (grows : Begins xs ys) (name
       → names_at ys more ≡ names_at xs ids ++ k ∷ []
   pushed_names i more k e is =
       ap (names_at ys) e ∙ map-append (name_at ys) ids (i ∷ []) ∙ (λ j. same_names xs ys ids grows named j ++ is j ∷ [])
-
--- a fact that holds of every result
-pub on_err : {A E P : Type 0} (r : Result A E) → P → OnErr r P
-on_err (Ok x) p = tt
-on_err (Err e) p = p

@@ -2,24 +2,25 @@
 use Rattle.std.proofs.Common.{◌≡◌, ℕ, zero, suc, ◌+◌, ◌<◌, ◌≤◌, List, [], ◌∷◌, take, length, Bool, true}
 use Rattle.std.proofs.Common.{false, Some, Contains, refl, ap, sym, ◌∙◌, subst, zero-add, add-one, arith}
 use Rattle.std.specs.List.{All, slice_get}
-use Rattle.std.proofs.lemmas.List.Elements.{All-append, All-take, Contains-append_left, Contains-append_right}
+use Rattle.std.proofs.lemmas.List.Elements.{All-append, All-take, Contains-append_left, Contains-append_right, All-nil}
 use Rattle.bohm_types.specs.Stmt.{Stmt}
 use Rattle.bohm_types.specs.Txn.{Txn}
 use Rattle.bohm_types.specs.Document.{Document}
 use Rattle.bohm_txn.specs.declared.fault.CheckKind.{CheckKind}
 use Rattle.bohm_txn.specs.declared.fault.CheckKind.TheVariants.{Order, Unread, Unwritten, Local, Limit}
 use Rattle.bohm_txn.specs.Faulty.{Faulty, txn_faulty, whole_faulty, sets_faulty, stmt_faulty}
+use Rattle.bohm_txn.proofs.ForCallers.{contains_head, at_some}
 use Rattle.bohm_check.specs.declared.told.Told.{Told}
 use Rattle.bohm_check.specs.Lines.{line_in, line_of, opening_line, sets_line, whole_line}
 use Rattle.bohm_check.specs.Faults.{IsTold, told_at}
 use Rattle.bohm_check.specs.All.{told_of, told_if, kinds_told, each_from, stmt_told, txn_told, doc_told}
-use Rattle.bohm_check.proofs.Lists.{single, none, it, passes, passed}
+use Rattle.bohm_check.proofs.Lists.{single, passed}
 
 -- ---- each entry of the list is a fault
 
 one_sound : (P : Told → Type 0) (b : Bool) (x : Told) → (b ≡ true → P x) → All P (told_if b x)
 one_sound P true x h = single P x (h refl)
-one_sound P false x h = none P
+one_sound P false x h = All-nil P
 
 kinds_sound : (P : Told → Type 0) (t s : ℕ) (p : CheckKind → Bool) (line : CheckKind → ℕ)
     → ((kind : CheckKind) → p kind ≡ true → P (told_of t s kind (line kind))) → All P (kinds_told t s p line)
@@ -29,7 +30,7 @@ kinds_sound P t s p line h =
 
 each_sound : {A : Type 0} (P : Told → Type 0) (tell : ℕ → A → List Told) (i : ℕ) (xs : List A)
     → ((j : ℕ) (x : A) → slice_get xs j ≡ Some x → All P (tell (i + j) x)) → All P (each_from tell i xs)
-each_sound P tell i [] h = none P
+each_sound P tell i [] h = All-nil P
 each_sound {A} P tell i (x ∷ xs) h =
     let first : All P (tell i x) = subst (λ (n : ℕ). All P (tell n x)) (omega arith) (h 0 x refl) in
     All-append P (tell i x) (each_from tell (i + 1) xs) first
@@ -40,13 +41,13 @@ module _ (d : Document) (i : ℕ) (t : Txn) (at : slice_get d.log i ≡ Some t) 
   line_there s kind = rw at refl
 
   told_there : (s : ℕ) (kind : CheckKind) → txn_faulty t s kind ≡ true → IsTold d (told_of (suc i) s kind (line_in t (opening_line d i) s kind))
-  told_there s kind h = record { faulty = passes (λ txn. txn_faulty txn s kind) d.log i t at h; line = sym (line_there s kind) }
+  told_there s kind h = record { faulty = at_some (λ txn. txn_faulty txn s kind) d.log i t at h; line = sym (line_there s kind) }
 
   stmt_sound : (j : ℕ) (s : Stmt) → slice_get t.body j ≡ Some s → All (IsTold d) (stmt_told t (suc i) (opening_line d i) j s)
   stmt_sound j s there =
       let sound : All (IsTold d) (kinds_told (suc i) (suc j) (stmt_faulty t (take j t.body) s) (λ kind. opening_line d i + 3 + j)) =
       kinds_sound (IsTold d) (suc i) (suc j) (stmt_faulty t (take j t.body) s) (λ kind. opening_line d i + 3 + j)
-      (λ kind h. told_there (suc j) kind (passes (λ s. stmt_faulty t (take j t.body) s kind) t.body j s there h)) in
+      (λ kind h. told_there (suc j) kind (at_some (λ s. stmt_faulty t (take j t.body) s kind) t.body j s there h)) in
       subst (λ (n : ℕ). All (IsTold d) (kinds_told (suc i) n (stmt_faulty t (take j t.body) s) (λ kind. opening_line d i + 3 + j))) (sym (add-one j)) sound
 
   txn_sound : All (IsTold d) (txn_told (suc i) (opening_line d i) t)
@@ -67,7 +68,7 @@ doc_sound d =
 -- ---- each fault is in the list
 
 one_there : (b : Bool) (x : Told) → b ≡ true → Contains (told_if b x) x
-one_there true x h = it x []
+one_there true x h = contains_head x []
 one_there false x h = absurd cc
 
 kinds_there : (t s : ℕ) (p : CheckKind → Bool) (line : CheckKind → ℕ) (kind : CheckKind) → p kind ≡ true

@@ -1,7 +1,7 @@
 -- Lists: properties of all elements, membership, and the first 20 elements.
 use Rattle.std.proofs.Common.{◌≡◌, Option, None, ℕ, zero, suc, ◌+◌, ◌<◌, ◌≤◌, List, [], ◌∷◌, ◌++◌, length}
-use Rattle.std.proofs.Common.{get_or, take, drop, Bool, true, false, Some, Contains, refl, ap, sym, ◌∙◌, arith}
-use Rattle.std.specs.Prelude.{◌&&◌, IsSomeAnd, is_some}
+use Rattle.std.proofs.Common.{get_or, take, drop, Bool, true, false, Some, refl, ap, sym, ◌∙◌, arith}
+use Rattle.std.specs.Prelude.{◌&&◌, IsSomeAnd}
 use Rattle.std.specs.List.{All, list_all, slice_get}
 use Rattle.std.proofs.lemmas.List.{take-append-le}
 use Rattle.bohm_txn.specs.Faulty.{passes_at}
@@ -13,12 +13,6 @@ single {X} P x h = go
     go : (k : ℕ) (d : X) → k < 1 → P (get_or (x ∷ []) k d)
     go zero d l = h
     go (suc k) d l = absurd (omega (arith, l))
-
-pub none : {X : Type 0} (P : X → Type 0) → All P []
-none P = λ k d l. absurd (omega (arith, l))
-
-pub it : {X : Type 0} (x : X) (xs : List X) → Contains (x ∷ xs) x
-it x xs = (0, omega arith, refl)
 
 -- ---- the first 20 elements
 
@@ -34,11 +28,6 @@ pub full : {X : Type 0} (n : ℕ) (xs more : List X) → n ≤ length xs → tak
 full n xs more enough = sym (take-append-le n xs more enough)
 
 -- ---- tests of an element by its index
-
-pub passes : {X : Type 0} (p : X → Bool) (xs : List X) (i : ℕ) (x : X) → slice_get xs i ≡ Some x → p x ≡ true → passes_at p xs i ≡ true
-passes p [] i x at h = cc
-passes p (y ∷ xs) zero x at h = let same : y ≡ x = cc in ap p same ∙ h
-passes p (y ∷ xs) (suc i) x at h = passes p xs i x at h
 
 pub passed : {X : Type 0} (p : X → Bool) (xs : List X) (i : ℕ) → passes_at p xs i ≡ true → (x : X) × (slice_get xs i ≡ Some x) × (p x ≡ true)
 passed p [] i h = absurd cc
@@ -62,7 +51,3 @@ module _ {X : Type 0} (p : X → Bool) (xs : List X) (i : ℕ) (so_far : list_al
 pub some_there : {X : Type 0} (P : X → Type 0) (o : Option X) → IsSomeAnd o P → (x : X) × (o ≡ Some x) × P x
 some_there P None h = absurd h
 some_there P (Some x) h = (x, refl, h)
-
-pub none_there : {X : Type 0} (o : Option X) → is_some o ≡ false → o ≡ None
-none_there None h = refl
-none_there (Some x) h = absurd cc

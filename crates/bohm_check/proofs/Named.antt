@@ -2,8 +2,6 @@
 use Rattle.std.proofs.Common.{◌≡◌, ℕ, ◌+◌, List, [], ◌∷◌, take, Bool, true, false, refl, ap, sym, ◌∙◌}
 use Rattle.std.specs.Prelude.{Option, Some, None, cond, not, ◌||◌, ◌&&◌}
 use Rattle.std.specs.List.{list_all, list_any, slice_get}
-use Rattle.std.proofs.lemmas.List.Folds.{list_any_more}
-use Rattle.std.proofs.lemmas.Option.{get_or_from_slice_get, slice_get_within}
 use Rattle.std.specs.Str.{bytes_eq}
 use Rattle.std.specs.BTreeMap.{is_at}
 use Rattle.std.specs.BTreeSet.{BTreeSet, IsEmpty, Updates}
@@ -15,6 +13,7 @@ use Rattle.bohm_types.specs.Parts.{sums, tested, target, bound}
 use Rattle.bohm_types.specs.Stmt.{Stmt}
 use Rattle.bohm_types.specs.Term.{Atom, Lit, Read, Local}
 use Rattle.bohm_txn.specs.Faulty.{reads_among, locals_bound, binds, is_bound, is_unread, is_unwritten, is_misnamed}
+use Rattle.bohm_txn.proofs.ForCallers.{any_more}
 use Rattle.bohm_check.specs.Names.{has, reads_in, locals_in, AreNamesOf, AreBoundBy}
 
 -- a name is a member after it was inserted
@@ -32,9 +31,6 @@ inserted old new name updates k =
 -- a set with none of the keys, and with one key more
 pub none_yet : (keys : List (List ℕ)) (names : BTreeSet (List ℕ)) → IsEmpty names → AreNamesOf (take 0 keys) names
 none_yet keys names empty k = ap (list_any (is_at (slice_cmp nat_cmp k))) empty
-
-any_more : {X : Type 0} (p : X → Bool) (xs : List X) (i : ℕ) (x : X) → slice_get xs i ≡ Some x → list_any p (take (i + 1) xs) ≡ (list_any p (take i xs) || p x)
-any_more p xs i x at = list_any_more p xs i x (slice_get_within xs i x at) ∙ ap (λ y. list_any p (take i xs) || p y) (get_or_from_slice_get xs i x x at)
 
 pub one_more : (keys : List (List ℕ)) (i : ℕ) (key : List ℕ) (old new : BTreeSet (List ℕ)) → slice_get keys i ≡ Some key → AreNamesOf (take i keys) old
     → ((k : List ℕ) → has new k ≡ (has old k || bytes_eq key k)) → AreNamesOf (take (i + 1) keys) new

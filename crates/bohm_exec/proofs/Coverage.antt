@@ -1,5 +1,5 @@
 -- The positions of a share, and the positions that its sweep defers.
-use Rattle.std.proofs.Common.{◌≡◌, ℕ, zero, suc, ◌+◌, ◌-◌, ◌%◌, ◌<◌, ◌≤◌, ◌∷◌, [], List, Bool, true}
+use Rattle.std.proofs.Common.{◌≡◌, ℕ, ◌+◌, ◌-◌, ◌%◌, ◌<◌, ◌≤◌, ◌∷◌, [], List, Bool, true}
 use Rattle.std.proofs.Common.{false, cond, eqb, All, refl, sym, ap, ◌∙◌, subst, ⊎_elim, arith}
 use Rattle.std.specs.Prelude.{Contains}
 use Rattle.std.specs.List.{filter, range_with_len}
@@ -8,29 +8,21 @@ use Rattle.std.proofs.lemmas.List.Elements.{All-filter}
 use Rattle.std.proofs.lemmas.List.FromFn.{length-range_with_len, get_or-range_with_len}
 use Rattle.bohm_exec.specs.Asides.{IsPickedFrom}
 use Rattle.bohm_exec.specs.Shares.{share}
+use Rattle.bohm_txn.proofs.ForCallers.{contains_head, contains_tail, contains_cases}
 
 -- ---- lists
 
-in_head : (x : ℕ) (xs : List ℕ) → Contains (x ∷ xs) x
-in_head x xs = (0, omega arith, refl)
-
-in_rest : (x y : ℕ) (xs : List ℕ) → Contains xs y → Contains (x ∷ xs) y
-in_rest x y xs (k, low, is) = (suc k, omega (arith, low), is)
-
-in_cases : (x y : ℕ) (xs : List ℕ) (P : Type 0) → Contains (x ∷ xs) y → (x ≡ y → P) → (Contains xs y → P) → P
-in_cases x y xs P (zero, low, is) here there = here is
-in_cases x y xs P (suc k, low, is) here there = there (k, omega (arith, low), is)
-
 added : (b : Bool) (x t : ℕ) (xs : List ℕ) → Contains xs t → Contains (cond b (x ∷ xs) xs) t
-added true x t xs c = in_rest x t xs c
+added true x t xs c = contains_tail x t xs c
 added false x t xs c = c
 
 kept : (p : ℕ → Bool) (xs : List ℕ) (t : ℕ) → p t ≡ true → Contains xs t → Contains (filter p xs) t
 kept p [] t passes (k, low, is) = absurd (omega (arith, low))
-kept p (x ∷ xs) t passes c = in_cases x t xs (Contains (filter p (x ∷ xs)) t) c
+kept p (x ∷ xs) t passes c = ⊎_elim
     (λ e. subst (λ (b : Bool). Contains (cond b (x ∷ filter p xs) (filter p xs)) t) (sym (ap p e ∙ passes))
-    (subst (λ (z : ℕ). Contains (x ∷ filter p xs) z) e (in_head x (filter p xs))))
+    (subst (λ (z : ℕ). Contains (x ∷ filter p xs) z) e (contains_head x (filter p xs))))
     (λ there. added (p x) x t (filter p xs) (kept p xs t passes there))
+    (contains_cases x t xs c)
 
 in_range : (a n t : ℕ) → a ≤ t → t < a + n → Contains (range_with_len a n) t
 in_range a n t low high =
@@ -58,7 +50,8 @@ pub picked_contains : (xs ys : List ℕ) (t : ℕ) → IsPickedFrom xs ys → Co
 picked_contains [] ys t p (k, low, is) = absurd (omega (arith, low))
 picked_contains (x ∷ xs) [] t p c = absurd p
 picked_contains (x ∷ xs) (y ∷ ys) t p c = ⊎_elim
-    (λ (q : (x ≡ y) × IsPickedFrom xs ys). in_cases x t xs (Contains (y ∷ ys) t) c
-    (λ e. subst (λ (z : ℕ). Contains (y ∷ ys) z) (sym q.0 ∙ e) (in_head y ys))
-    (λ there. in_rest y t ys (picked_contains xs ys t q.1 there)))
-    (λ (q : IsPickedFrom (x ∷ xs) ys). in_rest y t ys (picked_contains (x ∷ xs) ys t q c)) p
+    (λ (q : (x ≡ y) × IsPickedFrom xs ys). ⊎_elim
+    (λ e. subst (λ (z : ℕ). Contains (y ∷ ys) z) (sym q.0 ∙ e) (contains_head y ys))
+    (λ there. contains_tail y t ys (picked_contains xs ys t q.1 there))
+    (contains_cases x t xs c))
+    (λ (q : IsPickedFrom (x ∷ xs) ys). contains_tail y t ys (picked_contains (x ∷ xs) ys t q c)) p

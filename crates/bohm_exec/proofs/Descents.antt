@@ -3,7 +3,7 @@ use Rattle.std.proofs.Common.{◌≡◌, ◌≢◌, ℕ, zero, suc, ◌+◌, ◌
 use Rattle.std.proofs.Common.{sym, refl, ap, ◌∙◌, subst, ⊎_elim, Option, None, Some, arith, eq-eqb, ne_eqb, length-append, mul-le-mul_right, suc-mul}
 use Rattle.std.specs.Prelude.{Contains, MatchOption}
 use Rattle.std.specs.Option.{option_to_list}
-use Rattle.std.proofs.lemmas.List.{get_or_append_left}
+use Rattle.std.proofs.lemmas.List.{get_or_append_left, length_push}
 use Rattle.std.proofs.lemmas.List.Elements.{Contains-push_cases}
 use Rattle.std.proofs.lemmas.Grind.{get_or_default_zero}
 use mathlib.Core.Logic.{dite}
@@ -32,9 +32,6 @@ pub record IsDescent (b : Batch) (start : ℕ) (done xs : List ℕ) : Type 0 whe
 
 abbrev pub top_of : List ℕ → ℕ
 top_of xs = get_or xs (length xs - 1) 0
-
-length_push : (xs : List ℕ) (u : ℕ) → length (xs ++ u ∷ []) ≡ length xs + 1
-length_push xs u = length-append xs (u ∷ [])
 
 at_end : (xs : List ℕ) (u : ℕ) → get_or (xs ++ u ∷ []) (length xs) 0 ≡ u
 at_end [] u = refl

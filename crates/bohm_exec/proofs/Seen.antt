@@ -1,9 +1,8 @@
 -- Cells at the indices of their accesses, up to the current index of a loop.
-use Rattle.std.proofs.Common.{◌≡◌, ◌≢◌, ℕ, ◌+◌, ◌<◌, List, length, set, take, length-take, None, Some, refl, sym, ap, ◌∙◌, subst, arith}
+use Rattle.std.proofs.Common.{◌≡◌, ◌≢◌, ℕ, ◌+◌, ◌<◌, List, length, set, take, None, Some, refl, sym, ap, ◌∙◌, subst, arith}
 use Rattle.std.specs.Prelude.{Contains}
 use Rattle.std.specs.List.{slice_get}
-use Rattle.std.proofs.lemmas.Option.{same_Some, slice_get_within, slice_get-get_or, get_or_from_slice_get}
-use Rattle.std.proofs.lemmas.List.{get_or-take}
+use Rattle.std.proofs.lemmas.Option.{same_Some, slice_get_within, slice_get-get_or}
 use mathlib.Core.Logic.{dite}
 use native.Mathlib.Decide.{ℕ_discrete}
 use Rattle.bohm_types.specs.declared.cell.Cell.{Cell}
@@ -11,7 +10,7 @@ use Rattle.bohm_place.specs.declared.access.Access.{Access}
 use Rattle.bohm_place.specs.declared.access.Source.{Source}
 use Rattle.bohm_place.specs.declared.access.Source.TheVariants.{Before, Within}
 use Rattle.bohm_place.specs.declared.declared_set.DeclaredSet.{DeclaredSet}
-use Rattle.bohm_place.proofs.ForCallers.{set_same, set_other}
+use Rattle.bohm_place.proofs.ForCallers.{set_same, set_other, in_take}
 use Rattle.bohm_board.specs.declared.batch.Batch.{Batch}
 use Rattle.bohm_board.specs.declared.slot.Slot.{Slot}
 use Rattle.bohm_board.specs.declared.knowledge.View.{View}
@@ -24,12 +23,6 @@ use Rattle.bohm_exec.specs.Handed.{WantsAllOf, KnowsAll, AreFound, TakesSlot, sl
 
 pub place : {A : Type 0} (xs : List A) (x : A) → Contains xs x → (j : ℕ) × (slice_get xs j ≡ Some x)
 place xs x c = (c.0, slice_get-get_or xs c.0 x c.1 ∙ ap Some c.2)
-
-in_front : {A : Type 0} (n : ℕ) (xs : List A) (j : ℕ) (x : A) → slice_get (take n xs) j ≡ Some x → slice_get xs j ≡ Some x
-in_front n xs j x at =
-    let within : j < length (take n xs) = slice_get_within (take n xs) j x at in
-    let inside = simp length-take at within in
-    slice_get-get_or xs j x (omega arith) ∙ ap Some (sym (get_or-take n xs j x (omega arith)) ∙ get_or_from_slice_get (take n xs) j x x at)
 
 -- a version of the batch that a wanted access takes is made by an earlier transaction
 pub earlier_at : (b : Batch) (t : ℕ) (keys : DeclaredSet) (n : ℕ) (a : Access) (u : ℕ) → IsIn b t → WantsAllOf b t keys
@@ -122,4 +115,4 @@ are_found b accesses cells n long below = λ j a u c at is cell.
     below j a u c (omega arith) at is cell
 
 pub found_front : (b : Batch) (accesses : List Access) (cells : List Cell) (n : ℕ) → AreFound b accesses cells → AreFound b accesses (take n cells)
-found_front b accesses cells n found = λ j a u c at is cell. found j a u c at is (in_front n cells j c cell)
+found_front b accesses cells n found = λ j a u c at is cell. found j a u c at is (in_take cells n j c cell)

@@ -10,12 +10,7 @@ use Rattle.bohm_explain.specs.Heaviest.{IsInside, AreRising, heaviest_from, heav
 use Rattle.bohm_explain.specs.Chains.{IsWantedBy, IsChainFrom, IsChain, BeginsAt, last_of, EndsAt, LeadsOn, weight_of, IsGreatest}
 use Rattle.bohm_explain.proofs.Greatest.{picked, taken, passed}
 use Rattle.bohm_explain.proofs.Rules.{paired_to, rule_to, rule_from}
-
-further : {A : Type 0} (x : A) (xs : List A) (y : A) → Contains xs y → Contains (x ∷ xs) y
-further x xs y (k, low, is) = (suc k, omega arith, is)
-
-front : {A : Type 0} (x : A) (xs : List A) → Contains (x ∷ xs) x
-front x xs = (zero, omega arith, refl)
+use Rattle.bohm_txn.proofs.ForCallers.{contains_head, contains_tail}
 
 -- ---- the greatest number at the other ends of a position's arrows
 
@@ -26,7 +21,7 @@ module _ (here there : Arrow → ℕ) (number : ℕ → ℕ) (p : ℕ) where
 
   reaches_further : (a : Arrow) (rest : List Arrow) (n : ℕ) → Reaches rest n → Reaches (a ∷ rest) n
   reaches_further a rest n (inl none) = inl none
-  reaches_further a rest n (inr (b, has, is, same)) = inr (b, further a rest b has, is, same)
+  reaches_further a rest n (inr (b, has, is, same)) = inr (b, contains_tail a b rest has, is, same)
 
   more : (a : Arrow) (rest : List Arrow) → here a ≡ p → Reaches rest (picked here there number rest p)
       → Reaches (a ∷ rest) (picked here there number (a ∷ rest) p)
@@ -34,7 +29,7 @@ module _ (here there : Arrow → ℕ) (number : ℕ → ℕ) (p : ℕ) where
       (λ low. let same : picked here there number (a ∷ rest) p ≡ picked here there number rest p = taken here there number a rest p is ∙ omega (arith, low) in
       subst (Reaches (a ∷ rest)) (sym same) (reaches_further a rest _ before))
       (λ high. let same : number (there a) ≡ picked here there number (a ∷ rest) p = omega (arith, high, taken here there number a rest p is) in
-      inr (a, front a rest, is, same))
+      inr (a, contains_head a rest, is, same))
       (cases_lt (number (there a)) (picked here there number rest p))
 
   pub reaches : (arrows : List Arrow) → Reaches arrows (picked here there number arrows p)
@@ -92,8 +87,8 @@ met n arrows p [] after chain more = more
 met n arrows p (r ∷ rest) after chain more = (chain.0, chain.1, met n arrows r rest after chain.2 more)
 
 has_last : (p : ℕ) (rest after : List ℕ) → Contains ((p ∷ rest) ++ after) (last_of p rest)
-has_last p [] after = front p after
-has_last p (r ∷ rest) after = further p ((r ∷ rest) ++ after) (last_of r rest) (has_last r rest after)
+has_last p [] after = contains_head p after
+has_last p (r ∷ rest) after = contains_tail p (last_of r rest) ((r ∷ rest) ++ after) (has_last r rest after)
 
 -- ---- the greatest number of a list
 

@@ -1,7 +1,7 @@
 -- Each arrow leads to a later position of the batch, so both ends are in the batch.
 use Rattle.std.proofs.Common.{◌≡◌, ℕ, zero, suc, ◌<◌, ◌≤◌, List, [], ◌∷◌, All, Bool, true, false, cond, Option, Some, None, option_map, refl, arith}
 use Rattle.std.specs.List.{filter_map, cons_option}
-use Rattle.std.proofs.lemmas.List.Elements.{All-append}
+use Rattle.std.proofs.lemmas.List.Elements.{All-append, All-nil, All-cons}
 use Rattle.bohm_types.specs.Txn.{Txn}
 use Rattle.bohm_place.specs.declared.declared_set.DeclaredSet.TheVariants.{Reads, Writes}
 use Rattle.bohm_explain.specs.declared.arrow.Arrow.{Arrow}
@@ -11,13 +11,6 @@ use Rattle.bohm_explain.specs.Wanted.{writes_at, newest_before, arrow_of, arrows
 -- the arrow leads to a later position, one of the first n
 abbrev pub IsForward : ℕ → Arrow → Type 0
 IsForward n a = (a.from < a.to) × (a.to < n)
-
-pub all_cons : {A : Type 0} (P : A → Type 0) (x : A) (xs : List A) → P x → All P xs → All P (x ∷ xs)
-all_cons P x xs px h zero d lt = px
-all_cons P x xs px h (suc i) d lt = h i d (omega arith)
-
-none : {A : Type 0} (P : A → Type 0) → All P []
-none P k d lt = absurd (omega arith)
 
 pub below : (txns : List Txn) (k : List ℕ) (p f : ℕ) → newest_before txns k p ≡ Some f → f < p
 below txns k zero f is = absurd cc
@@ -31,14 +24,14 @@ module _ (txns : List Txn) (n p : ℕ) (inside : p < n) where
   one : (k : List ℕ) (o : Option ℕ) (rest : List Arrow) → newest_before txns k p ≡ o → All (IsForward n) rest
       → All (IsForward n) (cons_option (option_map (λ f. record { from = f; to = p; key = k }) o) rest)
   one k None rest is h = h
-  one k (Some f) rest is h = all_cons (IsForward n) (record { from = f; to = p; key = k }) rest (below txns k p f is, inside) h
+  one k (Some f) rest is h = All-cons (IsForward n) (record { from = f; to = p; key = k }) rest (below txns k p f is, inside) h
 
   pub for_keys : (ks : List (List ℕ)) → All (IsForward n) (filter_map (arrow_of txns p) ks)
-  for_keys [] = none (IsForward n)
+  for_keys [] = All-nil (IsForward n)
   for_keys (k ∷ ks) = one k (newest_before txns k p) (filter_map (arrow_of txns p) ks) refl (for_keys ks)
 
   for_writes : (b : Bool) → All (IsForward n) (cond b [] (filter_map (arrow_of txns p) (keys_at Writes txns p)))
-  for_writes true = none (IsForward n)
+  for_writes true = All-nil (IsForward n)
   for_writes false = for_keys (keys_at Writes txns p)
 
   pub at_position : All (IsForward n) (arrows_at txns p)
@@ -46,7 +39,7 @@ module _ (txns : List Txn) (n p : ℕ) (inside : p < n) where
       (cond (is_sure_at txns p) [] (filter_map (arrow_of txns p) (keys_at Writes txns p))) (for_keys (keys_at Reads txns p)) (for_writes (is_sure_at txns p))
 
 pub forward_below : (txns : List Txn) (n p : ℕ) → p ≤ n → All (IsForward n) (arrows_below txns p)
-forward_below txns n zero le = none (IsForward n)
+forward_below txns n zero le = All-nil (IsForward n)
 forward_below txns n (suc p) le = All-append (IsForward n) (arrows_below txns p) (arrows_at txns p) (forward_below txns n p (omega arith))
     (at_position txns n p (omega arith))
 

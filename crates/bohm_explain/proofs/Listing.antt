@@ -1,6 +1,6 @@
 -- The entries of a log's tallies, listed as heats, are the heats of the log's keys.
 use Rattle.std.proofs.Common.{◌≡◌, ℕ, zero, suc, Bool, true, false, List, [], ◌∷◌, map, Some, unwrap_or, is_some, All, refl, sym, ap, ◌∙◌, arith}
-use Rattle.std.specs.List.{AllByRecursion, IsDistinct, slice_get}
+use Rattle.std.specs.List.{IsDistinct, slice_get}
 use Rattle.std.specs.Map.{keys_of, lookup}
 use Rattle.std.specs.HashMap.{HashMap, IsUnique, get}
 use Rattle.std.specs.Str.{bytes_eq}
@@ -14,6 +14,7 @@ use Rattle.bohm_explain.specs.declared.tallies.Tally.{Tally}
 use Rattle.bohm_explain.specs.Heats as heats
 use Rattle.bohm_explain.specs.Heats.{AreHeatsOf, Chained, chain_of, heat_of, readers_of, writers_of}
 use Rattle.bohm_explain.specs.Tallies.{IsTallied, nothing}
+use Rattle.bohm_board.proofs.ForCallers.{none_equal}
 
 abbrev Entries : Type 0
 Entries = List (List ℕ × Tally)
@@ -27,14 +28,10 @@ keys_same : (es : Entries) → heats.keys_of (map entry_heat es) ≡ keys_of es
 keys_same [] = refl
 keys_same (e ∷ es) = ap (λ (ks : List (List ℕ)). e.0 ∷ ks) (keys_same es)
 
-none_of : (k : List ℕ) (ks : List (List ℕ)) → AllByRecursion (λ y. bytes_eq k y ≡ false) ks → is_among ks k ≡ false
-none_of k [] h = refl
-none_of k (x ∷ xs) h = rw (nat_list_eq_equiv.symm x k ∙ h.0) (none_of k xs h.1)
-
 distinct : (ks : List (List ℕ)) → IsDistinct bytes_eq ks → AreDistinct ks
 unfolding IsDistinct
 distinct [] h = tt
-distinct (k ∷ ks) h = (none_of k ks h.0, distinct ks h.1)
+distinct (k ∷ ks) h = (none_equal ks k h.0, distinct ks h.1)
 
 listed_by : (k : List ℕ) (e : List ℕ × Tally) (es : Entries) (b : Bool) → bytes_eq k e.0 ≡ b → is_among (keys_of es) k ≡ is_some (lookup (bytes_eq k) es)
     → is_among (keys_of (e ∷ es)) k ≡ is_some (lookup (bytes_eq k) (e ∷ es))

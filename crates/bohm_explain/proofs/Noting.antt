@@ -5,7 +5,7 @@ use Rattle.std.specs.List.{filter_map, cons_option, list_any}
 use Rattle.std.specs.HashMap.{HashMap}
 use Rattle.std.proofs.lemmas.Bool.{false≢true}
 use Rattle.std.proofs.lemmas.Option.{get_or_from_slice_get, slice_get_within}
-use Rattle.std.proofs.lemmas.List.Elements.{All-append, All-nil}
+use Rattle.std.proofs.lemmas.List.Elements.{All-append, All-nil, All-cons}
 use Rattle.std.proofs.lemmas.List.Folds.{list_any-append, list_any_at}
 use Rattle.std.proofs.lemmas.List.Sums.{sum_by-append}
 use Rattle.bohm_types.specs.Txn.{Txn}
@@ -19,7 +19,6 @@ use Rattle.bohm_explain.specs.declared.tallies.Tally.{Tally}
 use Rattle.bohm_explain.specs.Heats.{Chained, chain_in, chain_of, declares, readers_of, writers_of}
 use Rattle.bohm_explain.specs.Tallies.{IsTallied, counted_in, lists, raised, tally}
 use Rattle.bohm_explain.specs.Wanted.{arrow_of, arrows, arrows_at, arrows_below, arrows_in, is_sure_at, keys_at, newest_before}
-use Rattle.bohm_explain.proofs.Inside.{all_cons}
 use Rattle.bohm_explain.proofs.Raising.{chain_push}
 
 -- ---- the counts after one more batch
@@ -66,7 +65,7 @@ module _ (txns : List Txn) (p : ℕ) where
   one : (k : List ℕ) (o : Option ℕ) (rest : List Arrow) → list_any (declares k) txns ≡ true → All Declared rest
       → All Declared (cons_option (option_map (λ f. record { from = f; to = p; key = k }) o) rest)
   one k None rest is h = h
-  one k (Some f) rest is h = all_cons Declared (record { from = f; to = p; key = k }) rest is h
+  one k (Some f) rest is h = All-cons Declared (record { from = f; to = p; key = k }) rest is h
 
   for_keys : (ks : List (List ℕ)) → ((k : List ℕ) → is_among ks k ≡ true → list_any (declares k) txns ≡ true) → All Declared (filter_map (arrow_of txns p) ks)
   for_keys [] among = All-nil Declared

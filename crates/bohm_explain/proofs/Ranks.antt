@@ -1,5 +1,5 @@
 -- The order of heats: in a ranked list each heat is hotter than those after it, and only one list is ranked.
-use Rattle.std.proofs.Common.{◌≡◌, ◌≢◌, ◌⊎◌, ◌∙◌, ℕ, zero, suc, ◌<◌, List, [], ◌∷◌, length, map, get_or, false, refl, sym, ap, subst, inl, inr, arith}
+use Rattle.std.proofs.Common.{◌≡◌, ◌≢◌, ◌⊎◌, ◌∙◌, ℕ, suc, List, [], ◌∷◌, map, get_or, false, refl, sym, ap, subst, inl, inr, arith}
 use Rattle.std.specs.declared.cmp.Ordering.{Ordering}
 use Rattle.std.specs.declared.cmp.Ordering.TheVariants.{Less, Equal, Greater}
 use Rattle.std.specs.List.{AllPairs, Contains, IsDistinct}
@@ -18,6 +18,8 @@ use Rattle.std.proofs.lemmas.Slice.Eq.{bytes_eq-Decides}
 use Rattle.std.specs.Cmp.Lexicographic.{nat_list_eq_equiv}
 use Rattle.bohm_explain.specs.declared.heat.Heat.{Heat}
 use Rattle.bohm_explain.specs.Ranking.{accesses, rank_cmp, IsHotter, IsRanking}
+use Rattle.bohm_txn.proofs.ForCallers.{contains_head, contains_tail, contains_cases}
+use Rattle.bohm_board.proofs.ForCallers.{nothing_in}
 
 pub in_order : IsTotalOrder rank_cmp
 in_order = then_total (then_total (back_total (on_total accesses nat_cmp_total)) (back_total (on_total (λ h. h.chain) nat_cmp_total)))
@@ -72,19 +74,6 @@ tail_pairs x xs all i j d before inside = all (suc i) (suc j) d (omega (arith, b
 head_pairs : (x : Heat) (xs : List Heat) → AllPairs IsHotter (x ∷ xs) → (z : Heat) → Contains xs z → IsHotter x z
 head_pairs x xs all z there = subst (λ w. IsHotter x w) there.2 (all 0 (suc there.0) z (omega arith) (omega (arith, there.1)))
 
-split : (x : Heat) (xs : List Heat) (z : Heat) (k : ℕ) → k < length (x ∷ xs) → get_or (x ∷ xs) k z ≡ z → (x ≡ z) ⊎ Contains xs z
-split x xs z zero lt is = inl is
-split x xs z (suc k) lt is = inr (k, omega (arith, lt), is)
-
-empty : (z : Heat) → Contains [] z → ⊥
-empty z there = omega (arith, there.1)
-
-first : (x : Heat) (xs : List Heat) → Contains (x ∷ xs) x
-first x xs = (0, omega arith, refl)
-
-later : (x : Heat) (xs : List Heat) (z : Heat) → Contains xs z → Contains (x ∷ xs) z
-later x xs z there = (suc there.0, omega (arith, there.1), there.2)
-
 module _ (x y : Heat) (xs ys : List Heat) (hot : AllPairs IsHotter (x ∷ xs)) where
   heads : AllPairs IsHotter (y ∷ ys) → (y ≡ x) ⊎ Contains ys x → (x ≡ y) ⊎ Contains xs y → x ≡ y
   heads other (inl e) f = sym e
@@ -100,15 +89,15 @@ module _ (x y : Heat) (xs ys : List Heat) (hot : AllPairs IsHotter (x ∷ xs)) w
 pub one_order : (xs ys : List Heat) → AllPairs IsHotter xs → AllPairs IsHotter ys → ((z : Heat) → Contains xs z → Contains ys z)
     → ((z : Heat) → Contains ys z → Contains xs z) → xs ≡ ys
 one_order [] [] hot other into from = refl
-one_order [] (y ∷ ys) hot other into from = absurd (empty y (from y (first y ys)))
-one_order (x ∷ xs) [] hot other into from = absurd (empty x (into x (first x xs)))
+one_order [] (y ∷ ys) hot other into from = absurd (nothing_in y (from y (contains_head y ys)))
+one_order (x ∷ xs) [] hot other into from = absurd (nothing_in x (into x (contains_head x xs)))
 one_order (x ∷ xs) (y ∷ ys) hot other into from =
-    let among_ys : (z : Heat) → Contains (x ∷ xs) z → (y ≡ z) ⊎ Contains ys z = λ z there. let found = into z there in split y ys z found.0 found.1 found.2 in
-    let among_xs : (z : Heat) → Contains (y ∷ ys) z → (x ≡ z) ⊎ Contains xs z = λ z there. let found = from z there in split x xs z found.0 found.1 found.2 in
-    let same : x ≡ y = heads x y xs ys hot other (among_ys x (first x xs)) (among_xs y (first y ys)) in
+    let among_ys : (z : Heat) → Contains (x ∷ xs) z → (y ≡ z) ⊎ Contains ys z = λ z there. contains_cases y z ys (into z there) in
+    let among_xs : (z : Heat) → Contains (y ∷ ys) z → (x ≡ z) ⊎ Contains xs z = λ z there. contains_cases x z xs (from z there) in
+    let same : x ≡ y = heads x y xs ys hot other (among_ys x (contains_head x xs)) (among_xs y (contains_head y ys)) in
     let rest : xs ≡ ys = one_order xs ys (tail_pairs x xs hot) (tail_pairs y ys other)
-    (λ z there. behind x y xs ys hot same z there (among_ys z (later x xs z there)))
-    (λ z there. behind y x ys xs other (sym same) z there (among_xs z (later y ys z there))) in
+    (λ z there. behind x y xs ys hot same z there (among_ys z (contains_tail x z xs there)))
+    (λ z there. behind y x ys xs other (sym same) z there (among_xs z (contains_tail y z ys there))) in
     λ i. same i ∷ rest i
 
 pub one_ranking : (heats ranked other : List Heat) → IsRanking heats ranked → IsRanking heats other → ranked ≡ other

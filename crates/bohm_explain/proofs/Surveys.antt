@@ -1,8 +1,7 @@
 -- The figures and the counts of a log after one more batch, and lists of distinct keys.
-use Rattle.std.proofs.Common.{◌≡◌, ◌∙◌, ℕ, ◌+◌, ◌*◌, Bool, true, false, ◌||◌, List, [], ◌∷◌, ◌++◌, take, refl, ap, subst, add-one}
-use Rattle.std.specs.List.{AllByRecursion, IsDistinct}
+use Rattle.std.proofs.Common.{◌≡◌, ◌∙◌, ℕ, ◌+◌, ◌*◌, List, [], ◌∷◌, ◌++◌, take, refl, ap, subst, add-one}
+use Rattle.std.specs.List.{IsDistinct}
 use Rattle.std.specs.Str.{bytes_eq}
-use Rattle.std.specs.Cmp.Lexicographic.{nat_list_eq_equiv}
 use Rattle.bohm_types.specs.Txn.{Txn}
 use Rattle.bohm_types.specs.Keys.{is_among}
 use Rattle.bohm_place.specs.Shares.{AreDistinct}
@@ -13,6 +12,7 @@ use Rattle.bohm_explain.specs.Heats.{Chained}
 use Rattle.bohm_explain.specs.Printed.{chained, chained_below}
 use Rattle.bohm_explain.specs.Tallies.{IsGathered}
 use Rattle.bohm_explain.proofs.Cutting.{joined}
+use Rattle.bohm_txn.proofs.ForCallers.{apart_each, not_true}
 
 module _ (size : ℕ) (log : List Txn) (i : ℕ) (txns : List Txn) (is : txns ≡ batch_at size log i) where
   pub figures_more : (old new : List Figures) (f : Figures) → old ≡ figures_below size log i → f ≡ figures_of txns → new ≡ old ++ f ∷ []
@@ -32,16 +32,7 @@ module _ (size : ℕ) (log : List Txn) (i : ℕ) (txns : List Txn) (is : txns �
 
 -- ---- lists of distinct keys
 
-none_equal : (k : List ℕ) (ks : List (List ℕ)) → is_among ks k ≡ false → AllByRecursion (λ y. bytes_eq k y ≡ false) ks
-none_equal k [] h = tt
-none_equal k (x ∷ xs) h = by (bytes_eq x k) refl h (none_equal k xs)
-  where
-    by : (b : Bool) → bytes_eq x k ≡ b → (b || is_among xs k) ≡ false → (is_among xs k ≡ false → AllByRecursion (λ y. bytes_eq k y ≡ false) xs)
-        → AllByRecursion (λ y. bytes_eq k y ≡ false) (x ∷ xs)
-    by true e h rest = absurd (cc)
-    by false e h rest = (nat_list_eq_equiv.symm k x ∙ e, rest h)
-
 pub apart : (ks : List (List ℕ)) → AreDistinct ks → IsDistinct bytes_eq ks
 unfolding IsDistinct
 apart [] h = tt
-apart (k ∷ ks) h = (none_equal k ks h.0, apart ks h.1)
+apart (k ∷ ks) h = (apart_each k ks (not_true (is_among ks k) h.0), apart ks h.1)

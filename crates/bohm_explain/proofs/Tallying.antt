@@ -7,11 +7,12 @@ use Rattle.std.proofs.lemmas.Bool.{false≢true}
 use Rattle.std.proofs.lemmas.List.{length-take-le}
 use Rattle.std.proofs.lemmas.List.Sums.{count_by-le-length}
 use Rattle.std.proofs.lemmas.Option.{get_or_from_slice_get, slice_get_within}
+use Rattle.std.proofs.Math.Bool.{or_assoc}
 use Rattle.bohm_types.specs.Txn.{Txn}
 use Rattle.bohm_types.specs.Keys.{is_among, rising}
 use Rattle.bohm_txn.specs.declared.fault.CheckKind.TheVariants.{Order}
 use Rattle.bohm_txn.specs.Faulty.{IsWellFormedTxn}
-use Rattle.bohm_txn.proofs.ForCallers.{none_before, rising_apart, rising_writes, same_key}
+use Rattle.bohm_txn.proofs.ForCallers.{none_before, rising_apart, rising_writes, same_key, any_more}
 use Rattle.bohm_place.specs.declared.declared_set.DeclaredSet.{DeclaredSet}
 use Rattle.bohm_place.specs.declared.declared_set.DeclaredSet.TheVariants.{Reads, Writes}
 use Rattle.bohm_place.specs.Plans.{keys_in}
@@ -19,7 +20,7 @@ use Rattle.bohm_place.specs.Shares.{AreWellFormed}
 use Rattle.bohm_explain.specs.declared.tallies.Tally.{Tally}
 use Rattle.bohm_explain.specs.Heats.{declares, readers_of, writers_of}
 use Rattle.bohm_explain.specs.Tallies.{HasRoom, counted_in, plus}
-use Rattle.bohm_explain.proofs.Further.{any_more, sum_more}
+use Rattle.bohm_explain.proofs.Further.{sum_more}
 
 -- ---- the keys of one set, which ascend
 
@@ -29,7 +30,7 @@ not_yet keys i key rises at = subst (λ (k : List ℕ). is_among (take i keys) k
 
 among_more : (keys : List (List ℕ)) (i : ℕ) (key k : List ℕ) → slice_get keys i ≡ Some key
     → is_among (take (i + 1) keys) k ≡ (is_among (take i keys) k || bytes_eq key k)
-among_more keys i key k at = any_more keys i key at (λ x. bytes_eq x k)
+among_more keys i key k at = any_more (λ x. bytes_eq x k) keys i key at
 
 module _ (set : DeclaredSet) (old mid new : Tally) where
   by_step : (a e : Bool) → (e ≡ true → a ≡ false) → mid ≡ (if a then plus set old else old) → new ≡ (if e then plus set mid else mid)
@@ -86,10 +87,6 @@ room_behind b old new is room = let same = writers_left b old new is in omega (a
 
 -- ---- which keys are listed
 
-or_assoc : (a b c : Bool) → ((a || b) || c) ≡ (a || (b || c))
-or_assoc true b c = refl
-or_assoc false b c = refl
-
 pub listed_key : (keys : List (List ℕ)) (i : ℕ) (key k : List ℕ) (old mid new : Bool) → slice_get keys i ≡ Some key → mid ≡ (old || is_among (take i keys) k)
     → new ≡ (mid || bytes_eq key k) → new ≡ (old || is_among (take (i + 1) keys) k)
 listed_key keys i key k old mid new at m n =
@@ -133,4 +130,4 @@ module _ (txns : List Txn) (i : ℕ) (t : Txn) (at : slice_get txns i ≡ Some t
       let some = list_any (declares k) (take i txns) in
       let here = declares k t in
       let so : new ≡ (so_far || here) = n ∙ (ap (λ (b : Bool). b || is_among t.writes k) m ∙ or_assoc so_far (is_among t.reads k) (is_among t.writes k)) in
-      so ∙ (ap (λ (b : Bool). b || here) is ∙ (or_assoc old some here ∙ ap (λ (b : Bool). old || b) (sym (any_more txns i t at (declares k)))))
+      so ∙ (ap (λ (b : Bool). b || here) is ∙ (or_assoc old some here ∙ ap (λ (b : Bool). old || b) (sym (any_more (declares k) txns i t at))))

@@ -1,9 +1,9 @@
 -- The printed longest chain is as long as the greatest depth, and each step of a drawn chain has an arrow.
-use Rattle.std.proofs.Common.{◌≡◌, ◌∙◌, true≢false, ℕ, zero, suc, ◌+◌, ◌*◌, ◌==◌, ◌&&◌, ◌<◌, ◌≤◌, Bool, true, false, Option}
+use Rattle.std.proofs.Common.{◌≡◌, ◌∙◌, ℕ, zero, suc, ◌+◌, ◌*◌, ◌==◌, ◌&&◌, ◌<◌, ◌≤◌, Bool, true, false, Option}
 use Rattle.std.proofs.Common.{Some, List, [], ◌∷◌, ◌++◌, length, map, max, Contains, ⊎_elim, refl, sym, ap, subst, arith}
 use Rattle.std.specs.List.{find}
 use Rattle.std.specs.Option.{IsSomeAnd}
-use Rattle.std.proofs.lemmas.Bool.{cases_lt, eqb-true, eq-eqb}
+use Rattle.std.proofs.lemmas.Bool.{cases_lt, eqb-true, eq-eqb, and_parts}
 use Rattle.std.proofs.lemmas.List.{length-map, map-append}
 use Rattle.bohm_types.specs.Txn.{Txn}
 use Rattle.bohm_place.specs.Chains.{greatest}
@@ -30,16 +30,12 @@ found_one test (b ∷ rest) a (suc k, low, is) holds = by (found_one test rest a
     by later true e = (b, rw e refl, e)
     by later false e = (later.0, rw e later.1, later.2)
 
-both : (x y : Bool) → (x && y) ≡ true → (x ≡ true) × (y ≡ true)
-both true y h = (refl, h)
-both false y h = absurd (true≢false (sym h))
-
 pub drawn : (wanted : List Arrow) (p q : ℕ) → IsWantedBy wanted p q → IsSomeAnd (leading wanted p q) (λ a. (a.from ≡ p) × (a.to ≡ q))
 drawn wanted p q (a, has, from, to) =
     let test : Arrow → Bool = λ b. b.from == p && b.to == q in
     let holds : test a ≡ true = rw (eq-eqb a.from p from, eq-eqb a.to q to) refl in
     let one = found_one test wanted a has holds in
-    let ends = both (one.0.from == p) (one.0.to == q) one.2 in
+    let ends = and_parts (one.0.from == p) (one.0.to == q) one.2 in
     subst (λ (o : Option Arrow). IsSomeAnd o (λ b. (b.from ≡ p) × (b.to ≡ q))) (sym one.1) (eqb-true one.0.from p ends.0, eqb-true one.0.to q ends.1)
 
 -- ---- the deepest batch

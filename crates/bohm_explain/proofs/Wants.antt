@@ -3,7 +3,7 @@ use Rattle.std.proofs.Common.{◌≡◌, ℕ, zero, suc, ◌+◌, ◌-◌, ◌<�
 use Rattle.std.proofs.Common.{None, slice_get, unwrap_or, option_map, Contains, refl, sym, subst, ap, ◌∙◌, ⊎_elim, ◌⊎◌, inl, inr, arith}
 use Rattle.std.specs.List.{filter_map, cons_option}
 use Rattle.std.proofs.lemmas.Bool.{cases_lt}
-use Rattle.std.proofs.lemmas.Option.{slice_get-get_or, slice_get_within, get_or_from_slice_get}
+use Rattle.std.proofs.lemmas.Option.{slice_get-get_or, slice_get_within}
 use Rattle.std.proofs.lemmas.List.Elements.{Contains-append_left, Contains-append_right, Contains-append_cases}
 use Rattle.bohm_types.specs.Txn.{Txn}
 use Rattle.bohm_place.specs.declared.access.Access.{Access}
@@ -15,20 +15,14 @@ use Rattle.bohm_place.specs.Plans.{Planned, IsRightPlan, keys_in, planned_in}
 use Rattle.bohm_place.specs.Writers.{IsNewest}
 use Rattle.bohm_board.specs.declared.batch.Batch.{Batch}
 use Rattle.bohm_board.specs.Batches.{IsIn, Wants, plan_of, position, txns_of}
+use Rattle.bohm_board.proofs.ForCallers.{contains_at}
 use Rattle.bohm_explain.specs.declared.arrow.Arrow.{Arrow}
 use Rattle.bohm_explain.specs.Chains.{IsWantedBy}
 use Rattle.bohm_explain.specs.Wanted.{newest_before, place_of, arrow_of, arrows, arrows_at, arrows_below, arrows_in, is_sure_at, keys_at}
 use Rattle.bohm_explain.proofs.Sources.{right_source, paired, behind_first, arrow_by}
+use Rattle.bohm_txn.proofs.ForCallers.{there}
 
 -- ---- the elements of a filtered list
-
-there : {A : Type 0} (xs : List A) (i : ℕ) → i < length xs → (x : A) × (slice_get xs i ≡ Some x)
-there [] i low = absurd (omega (arith, low))
-there (x ∷ xs) zero low = (x, refl)
-there (x ∷ xs) (suc i) low = there xs i (omega (arith, low))
-
-contained : {A : Type 0} (xs : List A) (i : ℕ) (x : A) → slice_get xs i ≡ Some x → Contains xs x
-contained xs i x at = (i, slice_get_within xs i x at, get_or_from_slice_get xs i x x at)
 
 Given : {X Y : Type 0} → (X → Option Y) → List X → Y → Type 0
 Given {X} h xs y = (i : ℕ) × (x : X) × (slice_get xs i ≡ Some x) × (h x ≡ Some y)
@@ -113,7 +107,7 @@ module _ (txns : List Txn) (plan : Planned) (right : IsRightPlan txns plan) (q :
       let long : j < length (planned_in set plan q) = omega (arith, paired txns plan set q x right at_x, slice_get_within ks j k at_k) in
       let (a, at_a) = there (planned_in set plan q) j long in
       let newest = right_source txns plan set q j x k a right at_x at_k at_a in
-      (a, contained (planned_in set plan q) j a at_a, source_by k a.source r p newest (sym (arrow_by txns plan.first q k a.source newest) ∙ gives) from)
+      (a, contains_at (planned_in set plan q) j a at_a, source_by k a.source r p newest (sym (arrow_by txns plan.first q k a.source newest) ∙ gives) from)
 
 ends_at : (txns : List Txn) (q : ℕ) (ks : List (List ℕ)) (r : Arrow) → Contains (filter_map (arrow_of txns q) ks) r → r.to ≡ q
 unfolding Given to_of

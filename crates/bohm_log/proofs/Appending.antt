@@ -9,7 +9,7 @@ use Rattle.bohm_types.specs.declared.edition.Edition.TheVariants.{One, Two}
 use Rattle.bohm_types.specs.Document.{same_edition, in_edition}
 use Rattle.bohm_types.specs.Txn.{Txn}
 
-same_self : (e : Edition) → same_edition e e ≡ true
+pub same_self : (e : Edition) → same_edition e e ≡ true
 same_self One = refl
 same_self Two = refl
 

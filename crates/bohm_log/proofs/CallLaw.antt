@@ -5,7 +5,7 @@ use Rattle.std.proofs.Common.{append_assoc, length-append}
 use Rattle.std.specs.Prelude.{ℤ, nat_lt, ◌^◌, if◌then◌else◌, slice_get, slice_index_or}
 use Rattle.std.specs.List.{All, AllByRecursion, between}
 use Rattle.std.specs.Int.RustNames.{unsigned_abs}
-use Rattle.std.proofs.lemmas.List.{length-map, take-map, drop-map, map-append, get_or_append_left}
+use Rattle.std.proofs.lemmas.List.{length-map, map-append, get_or_append_left}
 use Rattle.std.proofs.lemmas.List.{get_or-map, get_or-append_right, drop_at, take-append-le, take_all}
 use Rattle.std.proofs.lemmas.List.Elements.{All-from_recursion, recursion_from_All, All-append, All-map, All-weaker, All-take, All-drop, All-same}
 use Rattle.std.proofs.lemmas.Option.{get_or_from_slice_get, slice_get_within}
@@ -30,11 +30,10 @@ use Rattle.bohm_log.specs.Calling.{literal_large, value_terms, value_large, let_
 use Rattle.bohm_log.specs.Calling.{let_rows, IsCalled}
 use Rattle.bohm_log.proofs.Growth.{between-front}
 use Rattle.bohm_log.proofs.Lets.{same_many}
+use Rattle.bohm_log.proofs.Lists.{each_append}
+use Rattle.bohm_log.proofs.Dividing.{divided}
 
 -- ---- lists
-
-between-mapped : {A B : Type 0} (g : A → B) (xs : List A) (i j : ℕ) → between i j (map g xs) ≡ map g (between i j xs)
-between-mapped g xs i j = ap (take (j - i)) (drop-map g i xs) ∙ take-map g (j - i) (drop i xs)
 
 between-middle : {A : Type 0} (xs ys zs : List A) (i j : ℕ) → i ≡ length xs → j ≡ length xs + length ys → between i j (xs ++ (ys ++ zs)) ≡ ys
 between-middle xs ys zs i j from to =
@@ -107,7 +106,7 @@ sum_moved : (f : List ℕ → List ℕ) (p q : Parts) (r w : List ℕ) → IsMov
 sum_moved f p q r w h within i j rises end reads =
     let short : j ≤ length (map (term_to r) p.terms) = omega (arith, end, length-map p.terms (term_to r)) in
     ap (λ ts. map (term_of q) (between i j ts)) h.terms
-    ∙ ap (map (term_of q)) (between-front (map (term_to r) p.terms) h.more_terms i j short rises ∙ between-mapped (term_to r) p.terms i j)
+    ∙ ap (map (term_of q)) (between-front (map (term_to r) p.terms) h.more_terms i j short rises ∙ sym (divided (term_to r) i j p.terms))
     ∙ terms_moved f p q r w h (between i j p.terms)
     (recursion_from_All (TermIn p) (between i j p.terms)
     (All-take (TermIn p) (j - i) (drop i p.terms) (All-drop (TermIn p) i p.terms within))) reads
@@ -240,10 +239,6 @@ value_in q pre more many v e m =
       | true ↦ λ large. (literal_in q pre more many (is_minus v) (unsigned_abs v) large m, tt)
       | false ↦ λ large. (literal_in q pre more many (is_minus v) (2 ^ 63 - 1) large m, (tt, tt))
     ] e
-
-each_append : {A : Type 0} (P : A → Type 0) (xs ys : List A) → AllByRecursion P xs → AllByRecursion P ys → AllByRecursion P (xs ++ ys)
-each_append P [] ys h k = k
-each_append P (x ∷ xs) ys h k = (h.0, each_append P xs ys h.1 k)
 
 values_in : (q : Parts) (pre : List ℕ) (many : ℕ) (vs : List ℤ) → q.large ≡ pre ++ let_large vs → many ≡ length pre
     → AllByRecursion (TermIn q) (let_terms many vs)

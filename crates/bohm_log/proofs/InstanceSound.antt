@@ -12,7 +12,7 @@ use Rattle.bohm_types.specs.Sound.{IsName, IsAtom, IsTerm, IsSum, IsGuard, IsStm
 use Rattle.bohm_types.specs.Term.{Atom, Lit, Read, Local}
 use Rattle.bohm_types.specs.Stmt.{Cond, Stmt, Bind, Need, Has, Lacks, Put, Remove, Show, Fail}
 use Rattle.bohm_log.specs.SoundLogs.{IsSoundProcedure}
-use Rattle.bohm_log.proofs.SoundDrafts.{each_append}
+use Rattle.bohm_log.proofs.Lists.{each_append, each_map}
 use Rattle.bohm_types.specs.Substitution.{atom_with, term_with, sum_with, guard_with, stmt_with}
 use Rattle.bohm_types.specs.KeySets.{inserted_by, inserted, key_set}
 use Rattle.bohm_types.specs.Procedure.{Procedure, argument_or, stands_for, is_minus, sum_of, lets, instance, procedure_with}
@@ -20,15 +20,11 @@ use Rattle.bohm_types.specs.Txn.{Txn}
 use Rattle.std.specs.Int.RustNames.{unsigned_abs}
 use Rattle.bohm_types.specs.Keys.{place}
 use Rattle.std.specs.Prelude.{slice_index_or}
+use Rattle.std.proofs.lemmas.List.{length-map}
 
 -- the function maps each valid name to a valid name
 KeepsNames : (List ℕ → List ℕ) → Type 0
 KeepsNames f = (k : List ℕ) → IsName k → IsName (f k)
-
-each_map : {A B : Type 0} (P : A → Type 0) (Q : B → Type 0) (g : A → B) → ((x : A) → P x → Q (g x)) → (xs : List A) → AllByRecursion P xs
-    → AllByRecursion Q (map g xs)
-each_map P Q g each [] h = tt
-each_map P Q g each (x ∷ xs) h = (each x h.0, each_map P Q g each xs h.1)
 
 term_sound : (f : List ℕ → List ℕ) → KeepsNames f → (minus : Bool) (a : Atom) → (is_term minus a ≡ true) × IsAtom a
     → (is_term minus (atom_with f a) ≡ true) × IsAtom (atom_with f a)
@@ -37,12 +33,8 @@ term_sound f keeps minus (Lit n) h = h
 term_sound f keeps minus (Read k) h = (refl, keeps k h.1)
 term_sound f keeps minus (Local x) h = h
 
-length_map : {A B : Type 0} (g : A → B) (xs : List A) → length (map g xs) ≡ length xs
-length_map g [] = refl
-length_map g (x ∷ xs) = rw (length_map g xs) refl
-
 sum_sound : (f : List ℕ → List ℕ) → KeepsNames f → (sum : List (Bool × Atom)) → IsSum sum → IsSum (sum_with f sum)
-sum_sound f keeps sum h = (omega (arith, h.0, length_map (term_with f) sum), each_map IsTerm IsTerm (term_with f) (λ t. term_sound f keeps t.0 t.1) sum h.1)
+sum_sound f keeps sum h = (omega (arith, h.0, length-map sum (term_with f)), each_map IsTerm IsTerm (term_with f) (λ t. term_sound f keeps t.0 t.1) sum h.1)
 
 guard_sound : (f : List ℕ → List ℕ) → KeepsNames f → (o : Option Cond) → IsGuard o → IsGuard (guard_with f o)
 guard_sound f keeps None h = tt

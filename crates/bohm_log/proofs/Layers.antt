@@ -1,7 +1,7 @@
 -- Finding, adding and removing names in two layers: the shared names, then the others.
 use Rattle.std.proofs.Common.{◌≡◌, ℕ, zero, suc, ◌+◌, ◌-◌, ◌<◌, ◌≤◌, ◌^◌, true, false, cond, List, [], ◌∷◌, ◌++◌, length, take}
 use Rattle.std.proofs.Common.{Some, None, refl, ap, sym, ◌∙◌, arith, append_assoc, append-nil, length-append, slice_get}
-use Rattle.std.specs.Prelude.{Bool, ◌||◌}
+use Rattle.std.specs.Prelude.{Bool}
 use Rattle.std.specs.Option.{option_map}
 use Rattle.std.specs.List.{list_any, position, position_from, AllByRecursion, IsDistinct}
 use Rattle.std.specs.Str.{bytes_eq}
@@ -10,9 +10,10 @@ use Rattle.std.proofs.lemmas.List.{length-take, length-take-le, take-append-le, 
 use Rattle.std.proofs.lemmas.List.Folds.{list_any-append}
 use Rattle.std.proofs.lemmas.Option.{same_Some}
 use Rattle.std.proofs.Math.Seq.{take-append-add}
-use Rattle.std.proofs.lemmas.Slice.Eq.{bytes_eq-Decides}
+use Rattle.std.proofs.lemmas.Bool.{or_parts}
 use Rattle.bohm_log.specs.Interning.{with_name, IsInterned}
 use Rattle.bohm_log.proofs.Seeking.{none_from}
+use Rattle.bohm_log.proofs.EqualKeys.{other_key}
 
 from_some : (t : List ℕ → Bool) (i : ℕ) (xs ys : List (List ℕ)) (n : ℕ) → position_from t i xs ≡ Some n → position_from t i (xs ++ ys) ≡ Some n
 from_some t i [] ys n e = absurd cc
@@ -77,27 +78,16 @@ got_behind (x ∷ xs) ys i =
 
 -- ---- names stay distinct when a name is added
 
-other_way : (a b : List ℕ) → bytes_eq a b ≡ false → bytes_eq b a ≡ false
-other_way a b e =
-    elim (bytes_eq b a) as (λ t. bytes_eq b a ≡ t → t ≡ false) [
-      | true ↦ λ h. let same : b ≡ a = (bytes_eq-Decides b a).0 h in let again : bytes_eq a b ≡ true = (bytes_eq-Decides a b).1 (sym same) in absurd cc
-      | false ↦ λ h. refl
-    ] refl
-
 all_other : (x k : List ℕ) (xs : List (List ℕ)) → AllByRecursion (λ y. bytes_eq x y ≡ false) xs → bytes_eq k x ≡ false
     → AllByRecursion (λ y. bytes_eq x y ≡ false) (xs ++ k ∷ [])
-all_other x k [] all e = (other_way k x e, tt)
+all_other x k [] all e = (other_key k x e, tt)
 all_other x k (y ∷ ys) all e = (all.0, all_other x k ys all.1 e)
-
-both : (a b : Bool) → (a || b) ≡ false → (a ≡ false) × (b ≡ false)
-both true b e = absurd cc
-both false b e = (refl, e)
 
 pushed : (names : List (List ℕ)) (k : List ℕ) → IsDistinct bytes_eq names → list_any (bytes_eq k) names ≡ false → IsDistinct bytes_eq (names ++ k ∷ [])
 unfolding IsDistinct
 pushed [] k apart e = (tt, tt)
 pushed (x ∷ xs) k apart e =
-    let parts = both (bytes_eq k x) (list_any (bytes_eq k) xs) e in
+    let parts = or_parts (bytes_eq k x) (list_any (bytes_eq k) xs) e in
     (all_other x k xs apart.0 parts.0, pushed xs k apart.1 parts.1)
 
 pub still_apart : (names : List (List ℕ)) (k : List ℕ) → IsDistinct bytes_eq names → IsDistinct bytes_eq (with_name names k)

@@ -1,6 +1,6 @@
 -- The literals, terms and statements that a call adds for its values: those so far and those still to add.
 use Rattle.std.proofs.Common.{◌≡◌, ℕ, zero, suc, ◌+◌, ◌<◌, ◌≤◌, true, false, List, [], ◌∷◌, ◌++◌, length, get_or, take, drop}
-use Rattle.std.proofs.Common.{refl, ap, sym, ◌∙◌, arith, add-one, drop-cons, append_assoc, append-nil, replicate}
+use Rattle.std.proofs.Common.{refl, ap, sym, ◌∙◌, arith, append_assoc, append-nil, replicate}
 use Rattle.std.specs.List.{AllByRecursion}
 use Rattle.std.specs.Prelude.{ℤ, pos, nat_lt, ◌^◌, ◌-◌, if◌then◌else◌}
 use Rattle.std.proofs.Common.{map}
@@ -11,9 +11,7 @@ use Rattle.bohm_log.specs.declared.row.TermRow.{TermRow}
 use Rattle.bohm_log.specs.declared.row.StmtRow.{StmtRow}
 use Rattle.bohm_types.specs.Procedure.{is_minus}
 use Rattle.bohm_log.specs.Calling.{literal_term, value_terms, value_large, let_large, let_terms, let_row, let_rows}
-
-split_at : {A : Type 0} (xs : List A) (i : ℕ) (x : A) → i < length xs → x ≡ get_or xs i x → drop i xs ≡ x ∷ drop (i + 1) xs
-split_at xs i x h is = rw add-one (drop-cons xs i x h ∙ ap (λ y. y ∷ drop (suc i) xs) (sym is))
+use Rattle.bohm_log.proofs.Lists.{front}
 
 pub same_many : (many other : ℕ) (v : ℤ) → length (value_terms many v) ≡ length (value_terms other v)
 same_many many other v =
@@ -32,7 +30,7 @@ pub large_next : (old now next : List ℕ) (vs : List ℤ) (i : ℕ) (v : ℤ) �
     → now ++ let_large (drop i vs) ≡ old ++ let_large vs → next ≡ now ++ value_large v → next ++ let_large (drop (i + 1) vs) ≡ old ++ let_large vs
 large_next old now next vs i v inside is h e =
     ap (λ xs. xs ++ let_large (drop (i + 1) vs)) e ∙ append_assoc now (value_large v) (let_large (drop (i + 1) vs))
-    ∙ ap (λ (ws : List ℤ). now ++ let_large ws) (sym (split_at vs i v inside is)) ∙ h
+    ∙ ap (λ (ws : List ℤ). now ++ let_large ws) (sym (front vs i v inside is)) ∙ h
 
 pub terms_next : (old now next : List TermRow) (large many more : ℕ) (vs : List ℤ) (i : ℕ) (v : ℤ) → i < length vs → v ≡ get_or vs i v
     → now ++ let_terms many (drop i vs) ≡ old ++ let_terms large vs → next ≡ now ++ value_terms many v → more ≡ many + length (value_large v)
@@ -40,7 +38,7 @@ pub terms_next : (old now next : List TermRow) (large many more : ℕ) (vs : Lis
 terms_next old now next large many more vs i v inside is h e m =
     (λ j. e j ++ let_terms (m j) (drop (i + 1) vs))
     ∙ append_assoc now (value_terms many v) (let_terms (many + length (value_large v)) (drop (i + 1) vs))
-    ∙ ap (λ (ws : List ℤ). now ++ let_terms many ws) (sym (split_at vs i v inside is)) ∙ h
+    ∙ ap (λ (ws : List ℤ). now ++ let_terms many ws) (sym (front vs i v inside is)) ∙ h
 
 pub rows_next : (old now next : List StmtRow) (first start end : ℕ) (places : List ℕ) (vs : List ℤ) (i place : ℕ) (v : ℤ)
     → i < length vs → v ≡ get_or vs i v → i < length places → place ≡ get_or places i place
@@ -51,7 +49,7 @@ rows_next old now next first start end places vs i place v inside is in_places p
     ap (λ xs. xs ++ let_rows end (drop (i + 1) places) (drop (i + 1) vs)) r
     ∙ append_assoc now (let_row place start end ∷ []) (let_rows end (drop (i + 1) places) (drop (i + 1) vs))
     ∙ (λ j. now ++ let_row place start (longer j) ∷ let_rows (longer j) (drop (i + 1) places) (drop (i + 1) vs))
-    ∙ (λ j. now ++ let_rows start (sym (split_at places i place in_places place_is) j) (sym (split_at vs i v inside is) j))
+    ∙ (λ j. now ++ let_rows start (sym (front places i place in_places place_is) j) (sym (front vs i v inside is) j))
     ∙ h
 
 -- ---- how many terms and statements there are
@@ -108,7 +106,7 @@ many_next large many more vs i v inside is h m = omega (
   arith,
   h,
   m,
-  ap (λ (ws : List ℤ). length (let_large ws)) (split_at vs i v inside is),
+  ap (λ (ws : List ℤ). length (let_large ws)) (front vs i v inside is),
   length-append (value_large v) (let_large (drop (i + 1) vs)),
 )
 
@@ -119,7 +117,7 @@ start_next first start end vs i v inside is h m = omega (
   arith,
   h,
   m,
-  ap (λ (ws : List ℤ). length (let_terms 0 ws)) (split_at vs i v inside is),
+  ap (λ (ws : List ℤ). length (let_terms 0 ws)) (front vs i v inside is),
   length-append (value_terms 0 v) (let_terms (0 + length (value_large v)) (drop (i + 1) vs)),
   terms_many (0 + length (value_large v)) 0 (drop (i + 1) vs),
 )

@@ -1,3 +1,5 @@
+mod Lists
+mod EqualKeys
 mod Growth
 mod Seeking
 mod Layers

@@ -6,7 +6,7 @@ use Rattle.std.specs.Int.RustNames.{unsigned_abs}
 use Rattle.std.specs.List.{sum_by, IsDistinct}
 use Rattle.std.specs.Str.{bytes_eq}
 use Rattle.std.proofs.lemmas.List.{length-append, length-map, length-drop, take-append-drop}
-use Rattle.std.proofs.lemmas.List.Sums.{sum_by-append}
+use Rattle.std.proofs.lemmas.List.Sums.{sum_by-append, sum_by-cons}
 use Rattle.bohm_types.specs.declared.edition.Edition.{Edition}
 use Rattle.bohm_types.specs.KeySets.{key_set}
 use Rattle.bohm_types.specs.Procedure.{Procedure, stands_for, is_minus, sum_of, lets, instance, procedure_with}
@@ -33,11 +33,6 @@ use Rattle.bohm_log.proofs.Arguments.{arguments_are}
 use Rattle.bohm_log.proofs.Lets.{rows_many, terms_many}
 use Rattle.bohm_log.proofs.SoundDrafts.{sound_log}
 use Rattle.bohm_log.proofs.Widening.{cut_kept, log_kept, logged_kept, log_more, logged_more}
-
-size_cons : {A : Type 0} (size : A → ℕ) (x : A) (xs : List A) → sum_by size (x ∷ xs) ≡ size x + sum_by size xs
-size_cons size x xs =
-    let split : sum_by size (x ∷ xs) ≡ 0 + size x + sum_by size xs = sum_by-append size (x ∷ []) xs in
-    omega (arith, split)
 
 -- ---- the size of a call's instance
 
@@ -112,7 +107,7 @@ lets_terms (x ∷ xs) [] same = absurd (omega (arith, same))
 lets_terms (x ∷ xs) (v ∷ vs) same =
     let rest = lets_terms xs vs (omega (arith, same)) in
     let step : sum_by stmt_terms (lets (x ∷ xs) (v ∷ vs)) ≡ length (sum_of v) + sum_by stmt_terms (lets xs vs) =
-    size_cons stmt_terms (Bind x (sum_of v)) (lets xs vs) in
+    sum_by-cons stmt_terms (Bind x (sum_of v)) (lets xs vs) in
     let more : length (let_terms 0 (v ∷ vs)) ≡ length (value_terms 0 v ++ let_terms (0 + length (value_large v)) vs) = refl in (
       omega (
         arith,
@@ -149,7 +144,7 @@ module _ (f : List ℕ → List ℕ) where
   body_kept : (ss : List Stmt) → sum_by stmt_terms (map (stmt_with f) ss) ≡ sum_by stmt_terms ss
   body_kept [] = refl
   body_kept (s ∷ ss) =
-      omega (arith, size_cons stmt_terms (stmt_with f s) (map (stmt_with f) ss), size_cons stmt_terms s ss, stmt_kept s, body_kept ss)
+      omega (arith, sum_by-cons stmt_terms (stmt_with f s) (map (stmt_with f) ss), sum_by-cons stmt_terms s ss, stmt_kept s, body_kept ss)
 
 -- ---- the size of a transaction's parts
 

@@ -1,6 +1,6 @@
 -- A key's index among ascending keys, and the indices of keys in their set.
 use Rattle.std.proofs.Common.{◌≡◌, ℕ, zero, suc, ◌+◌, ◌-◌, ◌<◌, ◌≤◌, true, false, Bool, List, [], ◌∷◌, ◌++◌, length}
-use Rattle.std.proofs.Common.{get_or, take, drop, map, Some, refl, ap, sym, ◌∙◌, subst, arith, add-one}
+use Rattle.std.proofs.Common.{get_or, take, drop, Some, refl, ap, sym, ◌∙◌, subst, arith}
 use Rattle.std.proofs.Common.{drop-cons, append_assoc, length-append, below_more}
 use Rattle.std.specs.Prelude.{slice_get, slice_index_or, ◌||◌}
 use Rattle.std.specs.List.{insert, range_with_len}
@@ -8,7 +8,7 @@ use Rattle.std.specs.Str.{bytes_eq}
 use Rattle.std.specs.Ordering.{nat_cmp, is_eq}
 use Rattle.std.specs.declared.cmp.Ordering.TheVariants.{Less, Equal, Greater}
 use Rattle.std.specs.Cmp.Lexicographic.{slice_cmp}
-use Rattle.std.proofs.lemmas.List.{drop_all, take_more, take-append-drop, length-map, get_or_append_left, get_or-append_right, get_or_default}
+use Rattle.std.proofs.lemmas.List.{drop_all, take_more, take-append-drop, length-map, get_or_append_left, get_or-append_right, get_or_default, map-id}
 use Rattle.std.proofs.lemmas.List.{map-append, take-map, drop-map, get_or-map}
 use Rattle.std.proofs.lemmas.List.Elements.{All-get_or}
 use Rattle.std.proofs.lemmas.List.FromFn.{get_or-range_with_len, map-range_with_len_more}
@@ -18,20 +18,18 @@ use Rattle.bohm_log.specs.Calling.{ArePlaces}
 use Rattle.bohm_log.specs.CallPlaces.{IsFalling}
 use Rattle.bohm_log.specs.Columns.{AllNamed}
 use Rattle.bohm_log.specs.Parts.{IsApart, name_at, names_at}
-use Rattle.std.proofs.lemmas.Slice.Eq.{bytes_eq-Decides}
+use Rattle.bohm_log.proofs.Lists.{front}
+use Rattle.bohm_log.proofs.EqualKeys.{same_key, key_itself}
 use Rattle.std.proofs.lemmas.Map.Text.{is_eq-slice_cmp}
 use Rattle.bohm_types.specs.Keys.{is_among}
 use Rattle.bohm_types.specs.KeySets.{inserted_by, inserted, key_set}
 
 -- ---- inserting a key at its index
 
-split_at : (xs : List (List ℕ)) (i : ℕ) (x : List ℕ) → i < length xs → x ≡ get_or xs i x → drop i xs ≡ x ∷ drop (i + 1) xs
-split_at xs i x h is = rw add-one (drop-cons xs i x h ∙ ap (λ y. y ∷ drop (suc i) xs) (sym is))
-
 pub inserted_before : (k : List ℕ) (xs : List (List ℕ)) (i : ℕ) (x : List ℕ) → i < length xs → x ≡ get_or xs i x → slice_cmp nat_cmp k x ≡ Less
     → inserted k xs ≡ take i xs ++ inserted k (drop i xs) → insert xs i k ≡ inserted k xs
 inserted_before k xs i x h is less e =
-    let there : drop i xs ≡ x ∷ drop (i + 1) xs = split_at xs i x h is in
+    let there : drop i xs ≡ x ∷ drop (i + 1) xs = front xs i x h is in
     let here : inserted k (drop i xs) ≡ k ∷ drop i xs =
     ap (inserted k) there ∙ ap (λ o. inserted_by o k x (drop (i + 1) xs) (inserted k (drop (i + 1) xs))) less ∙ ap (λ ys. k ∷ ys) (sym there) in
     sym (e ∙ ap (λ ys. take i xs ++ ys) here)
@@ -42,7 +40,7 @@ take_drop = take-append-drop
 pub inserted_at : (k : List ℕ) (xs : List (List ℕ)) (i : ℕ) (x : List ℕ) → i < length xs → x ≡ get_or xs i x → slice_cmp nat_cmp k x ≡ Equal
     → inserted k xs ≡ take i xs ++ inserted k (drop i xs) → xs ≡ inserted k xs
 inserted_at k xs i x h is equal e =
-    let there : drop i xs ≡ x ∷ drop (i + 1) xs = split_at xs i x h is in
+    let there : drop i xs ≡ x ∷ drop (i + 1) xs = front xs i x h is in
     let here : inserted k (drop i xs) ≡ drop i xs =
     ap (inserted k) there ∙ ap (λ o. inserted_by o k x (drop (i + 1) xs) (inserted k (drop (i + 1) xs))) equal ∙ sym there in
     sym (e ∙ ap (λ ys. take i xs ++ ys) here ∙ take_drop i xs)
@@ -50,7 +48,7 @@ inserted_at k xs i x h is equal e =
 pub inserted_after : (k : List ℕ) (xs : List (List ℕ)) (i : ℕ) (x : List ℕ) → i < length xs → x ≡ get_or xs i x → slice_cmp nat_cmp k x ≡ Greater
     → inserted k xs ≡ take i xs ++ inserted k (drop i xs) → inserted k xs ≡ take (i + 1) xs ++ inserted k (drop (i + 1) xs)
 inserted_after k xs i x h is greater e =
-    let there : drop i xs ≡ x ∷ drop (i + 1) xs = split_at xs i x h is in
+    let there : drop i xs ≡ x ∷ drop (i + 1) xs = front xs i x h is in
     let here : inserted k (drop i xs) ≡ x ∷ inserted k (drop (i + 1) xs) =
     ap (inserted k) there ∙ ap (λ o. inserted_by o k x (drop (i + 1) xs) (inserted k (drop (i + 1) xs))) greater in
     let more : take (i + 1) xs ≡ take i xs ++ x ∷ [] = take_more xs i x h ∙ ap (λ y. take i xs ++ y ∷ []) (sym is) in
@@ -68,8 +66,8 @@ own_last keys i h inside =
 pub own_further : (keys : List (List ℕ)) (i : ℕ) (k x : List ℕ) → i + 1 < length keys → k ≡ get_or keys i k → x ≡ get_or keys (i + 1) x
     → slice_cmp nat_cmp k x ≡ Less → key_set (drop (i + 1) keys) ≡ drop (i + 1) keys → key_set (drop i keys) ≡ drop i keys
 own_further keys i k x inside first second less own =
-    let there : drop (i + 1) keys ≡ x ∷ drop (i + 1 + 1) keys = split_at keys (i + 1) x inside second in
-    let here : drop i keys ≡ k ∷ drop (i + 1) keys = split_at keys i k (omega arith) first in
+    let there : drop (i + 1) keys ≡ x ∷ drop (i + 1 + 1) keys = front keys (i + 1) x inside second in
+    let here : drop i keys ≡ k ∷ drop (i + 1) keys = front keys i k (omega arith) first in
     ap key_set here ∙ ap (inserted k) own ∙ ap (inserted k) there
     ∙ ap (λ o. inserted_by o k x (drop (i + 1 + 1) keys) (inserted k (drop (i + 1 + 1) keys))) less
     ∙ ap (λ (ks : List (List ℕ)). k ∷ ks) (sym there) ∙ sym here
@@ -125,14 +123,10 @@ number_after names sorted id i n k x inside is named within number there greater
 
 -- ---- consecutive indices
 
-map_itself : (xs : List ℕ) → map (λ i. i) xs ≡ xs
-map_itself [] = refl
-map_itself (x ∷ xs) = ap (λ (ys : List ℕ). x ∷ ys) (map_itself xs)
-
 pub range_more : (a n j : ℕ) → a + n ≡ j → range_with_len a (n + 1) ≡ range_with_len a n ++ j ∷ []
 range_more a n j e =
-    sym (map_itself (range_with_len a (n + 1))) ∙ map-range_with_len_more (λ i. i) a n j e
-    ∙ ap (λ (xs : List ℕ). xs ++ j ∷ []) (map_itself (range_with_len a n))
+    sym (map-id (range_with_len a (n + 1))) ∙ map-range_with_len_more (λ i. i) a n j e
+    ∙ ap (λ (xs : List ℕ). xs ++ j ∷ []) (map-id (range_with_len a n))
 
 place_stays : (n i : ℕ) → i < n → slice_index_or (range_with_len 0 n) i 0 ≡ i
 place_stays n i h = get_or-range_with_len 0 n i 0 h ∙ zero_more
@@ -174,12 +168,6 @@ two_falling (x ∷ y ∷ z ∷ zs) a b two first second greater = absurd (omega 
 
 equal_keys : (k x : List ℕ) → slice_cmp nat_cmp k x ≡ Equal → bytes_eq k x ≡ true
 equal_keys k x e = sym (is_eq-slice_cmp k x) ∙ ap is_eq e
-
-pub same_key : (x k : List ℕ) → bytes_eq x k ≡ true → x ≡ k
-same_key x k e = (bytes_eq-Decides x k).0 e
-
-key_itself : (k : List ℕ) → bytes_eq k k ≡ true
-key_itself k = (bytes_eq-Decides k k).1 refl
 
 swapped : (a b c : Bool) → (a || (b || c)) ≡ (b || (a || c))
 swapped true true c = refl

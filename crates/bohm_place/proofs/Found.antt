@@ -92,15 +92,11 @@ made_each P u [] k p = tt
 made_each P u (x ∷ xs) k p = each_append (λ (v : Placeholder). P v.begin) (placeholders_written u 0 x.writes k) (placeholders_made (u + 1) xs k)
     (written_each P u 0 x.writes k (p u (omega arith) (omega arith))) (made_each P (u + 1) xs k (λ t low high. p t (omega arith) (omega arith)))
 
-hand_below_by : (m : Bool) (first t : ℕ) (base hand : List Placeholder) (xs : List Txn) (k : List ℕ) → first + length xs ≤ t → Below first base
-    → hand ≡ (if m then base ++ placeholders_made first xs k else base) → Below t hand
-hand_below_by true first t base hand xs k le low h = rw h (each_append (λ (v : Placeholder). v.begin < t) base (placeholders_made first xs k)
-    (Below-higher first t base (omega arith) low) (made_each (λ b. b < t) first xs k (λ b from to. omega arith)))
-hand_below_by false first t base hand xs k le low h = rw h (Below-higher first t base (omega arith) low)
-
 pub hand_below : (m : Bool) (first t : ℕ) (base hand : List Placeholder) (xs : List Txn) (k : List ℕ) → first + length xs ≤ t → Below first base
     → hand ≡ (if m then base ++ placeholders_made first xs k else base) → Below t hand
-hand_below m first t base hand xs k le low h = hand_below_by m first t base hand xs k le low h
+hand_below true first t base hand xs k le low h = rw h (each_append (λ (v : Placeholder). v.begin < t) base (placeholders_made first xs k)
+    (Below-higher first t base (omega arith) low) (made_each (λ b. b < t) first xs k (λ b from to. omega arith)))
+hand_below false first t base hand xs k le low h = rw h (Below-higher first t base (omega arith) low)
 
 -- ---- several workers
 

@@ -1,14 +1,17 @@
 -- List elements by index.
-use Rattle.std.proofs.Common.{◌≡◌, ◌≢◌, ℕ, zero, suc, ◌+◌, ◌<◌, List, [], ◌∷◌, ◌++◌, length, take, drop}
+use Rattle.std.proofs.Common.{◌≡◌, ◌≢◌, ℕ, zero, suc, ◌+◌, ◌<◌, List, [], ◌∷◌, ◌++◌, length, take, drop, sym}
 use Rattle.std.proofs.Common.{slice_get, slice_set, set, get_or, Some, refl, ap, ◌∙◌, arith, length-set}
-use Rattle.std.proofs.lemmas.Option.{slice_get-get_or}
-use Rattle.std.proofs.lemmas.List.{get_or-set_same}
+use Rattle.std.proofs.lemmas.Option.{slice_get-get_or, slice_get_within}
+use Rattle.std.proofs.lemmas.List.{get_or-set_same, length-take}
 
 pub get_take : {A : Type 0} (c n : ℕ) (xs : List A) → n < c → slice_get (take c xs) n ≡ slice_get xs n
 get_take zero n xs h = absurd (omega arith)
 get_take (suc c) n [] h = refl
 get_take (suc c) zero (x ∷ xs) h = refl
 get_take (suc c) (suc n) (x ∷ xs) h = get_take c n xs (omega arith)
+
+pub in_take : {A : Type 0} (xs : List A) (t u : ℕ) (x : A) → slice_get (take t xs) u ≡ Some x → slice_get xs u ≡ Some x
+in_take xs t u x e = sym (get_take t u xs (omega (arith, slice_get_within (take t xs) u x e, length-take t xs))) ∙ e
 
 pub get_drop : {A : Type 0} (s n : ℕ) (xs : List A) → slice_get (drop s xs) n ≡ slice_get xs (s + n)
 get_drop zero n xs = let e : n ≡ (0 + n) = omega arith in ap (slice_get xs) e

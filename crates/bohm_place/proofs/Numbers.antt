@@ -13,7 +13,7 @@ use Rattle.bohm_types.specs.Txn.{Txn}
 use Rattle.bohm_log.specs.Parts.{name_at, names_at}
 use Rattle.bohm_log.specs.Columns.{AllNamed}
 use Rattle.bohm_log.specs.Numbering.{Numbered, Numbers, named_sets, declared_sets}
-use Rattle.bohm_txn.proofs.ForCallers.{same_key, key_itself}
+use Rattle.bohm_txn.proofs.ForCallers.{same_key, key_itself, other_key}
 use Rattle.bohm_place.specs.declared.placeholder.Placeholder.{Placeholder}
 use Rattle.bohm_place.specs.Chains.{none, last_or}
 use Rattle.bohm_place.specs.Shares.{within, placeholders_written, placeholders_made, ahead_of, AreDistinct}
@@ -24,14 +24,12 @@ use Rattle.bohm_place.proofs.Found.{made_more}
 
 -- ---- numbers and names
 
--- different numbers have different names
-one_number : (names : List (List ℕ)) (m n : ℕ) → IsDistinct bytes_eq names → m < length names → n < length names → m ≢ n
-    → bytes_eq (name_at names m) (name_at names n) ≡ true → ⊥
-one_number names m n distinct in_m in_n apart e = ⊎_elim
-    (λ lt. false≢true (sym (apart_from_distinct bytes_eq names m n [] distinct lt in_n) ∙ e))
-    (λ ge. let swapped : bytes_eq (name_at names n) (name_at names m) ≡ true =
-    rw (same_key (name_at names m) (name_at names n) e) (key_itself (name_at names n)) in
-    false≢true (sym (apart_from_distinct bytes_eq names n m [] distinct (below m n apart ge) in_m) ∙ swapped))
+-- keys with different numbers differ
+pub two_numbers : (names : List (List ℕ)) (m n : ℕ) → IsDistinct bytes_eq names → m < length names → n < length names → m ≢ n
+    → bytes_eq (name_at names m) (name_at names n) ≡ false
+two_numbers names m n distinct in_m in_n apart = ⊎_elim
+    (λ lt. apart_from_distinct bytes_eq names m n [] distinct lt in_n)
+    (λ ge. other_key (name_at names n) (name_at names m) (apart_from_distinct bytes_eq names n m [] distinct (below m n apart ge) in_m))
     (cases_lt m n)
   where
     below : (m n : ℕ) → m ≢ n → n ≤ m → n < m
@@ -52,7 +50,7 @@ module _ (first : ℕ) (names : List (List ℕ)) (number : ℕ) (hand new : List
       let at : newest_at new n ≡ next = rw (is, same) (get_or-set_same hand number next none (omega arith)) in
       rw at own
   slot_by n in_n false true e mine is c = absurd (false≢true (mine refl))
-  slot_by n in_n m true e mine is (inr other) = absurd (one_number names number n apart inside in_n (λ s. other (sym s)) e)
+  slot_by n in_n m true e mine is (inr other) = absurd (false≢true (sym (two_numbers names number n apart inside in_n (λ s. other (sym s))) ∙ e))
   slot_by n in_n m false e mine is (inl same) = absurd
       (false≢true (sym e ∙ subst (λ (k : ℕ). bytes_eq (name_at names number) (name_at names k) ≡ true) (sym same) (key_itself (name_at names number))))
   slot_by n in_n true false e mine is (inr other) =

@@ -5,8 +5,8 @@ use Rattle.std.specs.List.{AllByRecursion}
 use Rattle.std.specs.Str.{bytes_eq}
 use Rattle.std.proofs.lemmas.Bool.Decides.{nat_tests}
 use Rattle.std.proofs.lemmas.Bool.{cases_lt, false≢true}
-use Rattle.std.proofs.lemmas.Option.{same_Some, slice_get_within}
-use Rattle.std.proofs.lemmas.List.{length-take, length-take-le}
+use Rattle.std.proofs.lemmas.Option.{same_Some}
+use Rattle.std.proofs.lemmas.List.{length-take-le}
 use Rattle.bohm_types.specs.Txn.{Txn}
 use Rattle.bohm_types.specs.Keys.{is_among}
 use Rattle.bohm_txn.proofs.ForCallers.{same_key, among_at}
@@ -17,7 +17,7 @@ use Rattle.bohm_place.specs.Shares.{within, placeholders_written, placeholders_m
 use Rattle.bohm_place.specs.Writers.{HasTxn, writers}
 use Rattle.bohm_place.specs.Plans.{access_of, IsRightAccess}
 use Rattle.bohm_place.proofs.Keyed.{last_or-append}
-use Rattle.bohm_place.proofs.Lists.{get_take}
+use Rattle.bohm_place.proofs.Lists.{in_take}
 use Rattle.bohm_place.proofs.Rising.{begins-append}
 use Rattle.bohm_place.proofs.Placed.{Below}
 use Rattle.bohm_place.proofs.Found.{made_each}
@@ -120,9 +120,6 @@ last_made first all (t ∷ ts) k n v same before =
     (placeholders_made ((first + n) + 1) ts k) =
     last_or-append v (placeholders_written (first + n) 0 t.writes k) (placeholders_made ((first + n) + 1) ts k) in
     rw (parts, ← long, ← begin) more
-
-in_take : {A : Type 0} (xs : List A) (t u : ℕ) (x : A) → slice_get (take t xs) u ≡ Some x → slice_get xs u ≡ Some x
-in_take xs t u x e = sym (get_take t u xs (omega (arith, slice_get_within (take t xs) u x e, length-take t xs))) ∙ e
 
 newest_made : (first : ℕ) (all : List Txn) (k : List ℕ) (i : ℕ) → i ≤ length all
     → LastBelow first all k i (last_or none (placeholders_made first (take i all) k))

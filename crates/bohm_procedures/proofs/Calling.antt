@@ -1,17 +1,17 @@
 -- A procedure's own instance is checked alone, and there are as many handles as keys.
-use Rattle.std.proofs.Common.{◌≡◌, ℕ, true, false, List, [], ◌∷◌, ◌++◌, length, Some, Ok, Err, refl, sym, ap, ◌∙◌, arith, ◌≤◌, ◌+◌, map, take}
+use Rattle.std.proofs.Common.{◌≡◌, ℕ, false, List, [], ◌∷◌, ◌++◌, length, Some, Ok, Err, refl, sym, ap, ◌∙◌, arith, ◌≤◌, ◌+◌, map, take}
 use Rattle.std.specs.Prelude.{ℤ, Result, OnOk, is_err}
 use Rattle.std.specs.List.{sum_by}
 use Rattle.std.proofs.lemmas.List.Sums.{sum_by-append}
 use Rattle.std.proofs.lemmas.Option.{same_Some}
 use Rattle.bohm_types.specs.declared.edition.Edition.{Edition}
-use Rattle.bohm_types.specs.declared.edition.Edition.TheVariants.{One, Two}
 use Rattle.bohm_types.specs.Txn.{Txn}
 use Rattle.bohm_log.specs.declared.key_handle.KeyHandle.{KeyHandle}
 use Rattle.bohm_log.specs.Drafting.{Drafted, IsBetween}
 use Rattle.bohm_log.specs.Handles.{keys_named}
 use Rattle.bohm_log.specs.Sizes.{open_terms, stmt_terms}
-use Rattle.bohm_types.specs.Document.{Document, same_edition, document_of}
+use Rattle.bohm_log.proofs.ForCallers.{same_self}
+use Rattle.bohm_types.specs.Document.{Document, document_of}
 use Rattle.bohm_txn.specs.Faulty.{alone}
 use Rattle.bohm_text.specs.ProcedureReading.{let_zero}
 use Rattle.bohm_procedures.specs.Accepting.{BeginsWithLets}
@@ -19,10 +19,6 @@ use Rattle.std.proofs.lemmas.List.{length-map, length-take}
 
 pub named_length : (handles : List KeyHandle) → length (keys_named handles) ≡ length handles
 named_length handles = length-map handles (λ (h : KeyHandle). h.key)
-
-same_self : (e : Edition) → same_edition e e ≡ true
-same_self One = refl
-same_self Two = refl
 
 one_document : (t : Txn) → document_of t.edition [] (t ∷ []) ≡ Some (alone t)
 one_document t = rw (same_self t.edition) refl

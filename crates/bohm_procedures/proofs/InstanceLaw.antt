@@ -3,7 +3,7 @@ use Rattle.std.proofs.Common.{◌≡◌, ℕ, zero, suc, ◌+◌, ◌-◌, ◌^�
 use Rattle.std.proofs.Common.{length, map, take, drop, refl, sym, ap, ◌∙◌, subst, arith}
 use Rattle.std.specs.Prelude.{ℤ, ◌||◌, not, nat_le, nat_lt, count_by, if◌then◌else◌}
 use Rattle.std.specs.List.{fold}
-use Rattle.std.proofs.lemmas.Bool.{false_from_ne_true}
+use Rattle.std.proofs.lemmas.Bool.{false_from_ne_true, false≢true}
 use Rattle.std.proofs.lemmas.Bool.Decides.{nat_tests}
 use Rattle.bohm_types.specs.Keys.{IsAmong, rising}
 use Rattle.bohm_types.specs.Parts.{bound, is_show}
@@ -17,12 +17,12 @@ use Rattle.bohm_txn.specs.Faulty.{sets_faulty, txn_faulty, faulty, passes_at, al
 use Rattle.bohm_types.specs.Substitution.{stmt_with}
 use Rattle.bohm_types.specs.KeySets.{key_set}
 use Rattle.bohm_types.specs.Procedure.{Procedure, stands_for, is_minus, sum_of, lets, instance, procedure_with}
-use Rattle.std.proofs.lemmas.List.{take-append-drop}
+use Rattle.std.proofs.lemmas.List.{take-append-drop, length-map}
 use Rattle.bohm_text.specs.ProcedureReading.{let_zero}
 use Rattle.bohm_procedures.specs.Accepting.{own, IsAccepted, BeginsWithLets}
 use Rattle.std.specs.Int.RustNames.{unsigned_abs}
 use Rattle.bohm_log.proofs.ForCallers.{key_set_few}
-use Rattle.bohm_txn.proofs.ForCallers.{key_set_rises}
+use Rattle.bohm_txn.proofs.ForCallers.{key_set_rises, not_true}
 use Rattle.bohm_procedures.proofs.KeySetLaws.{among_key_set_map}
 use Rattle.bohm_procedures.proofs.SubstitutionLaws.{Covers, BindAlike, unread_with, unwritten_with, misnamed_with, long_with, parts_with}
 
@@ -149,15 +149,11 @@ stmt_still f t u turned before now alike Unwritten s r m e = m.writes t.writes u
 stmt_still f t u turned before now alike LocalFault s r m e = m.names before now alike e
 stmt_still f t u turned before now alike Limit s r m e = m.few e
 
-map_length : {A B : Type 0} (g : A → B) (xs : List A) → length (map g xs) ≡ length xs
-map_length g [] = refl
-map_length g (x ∷ xs) = rw (map_length g xs) refl
-
 few_in_set : (f : List ℕ → List ℕ) (keys others : List (List ℕ)) → others ≡ key_set (map f keys) → nat_le (length keys) 16 ≡ true
     → nat_le (length others) 16 ≡ true
 few_in_set f keys others e few =
     let same : length others ≡ length (key_set (map f keys)) = ap length e in
-    grind (arith, nat_tests, same, key_set_few (map f keys), map_length f keys, few)
+    grind (arith, nat_tests, same, key_set_few (map f keys), length-map keys f, few)
 
 no_counts : (a b c d : Bool) → (not a || not b || not c || not d) ≡ false → (a ≡ true) × (b ≡ true) × (c ≡ true) × (d ≡ true)
 no_counts true true true true h = (refl, refl, refl, refl)
@@ -187,24 +183,18 @@ place_still f t u turned (suc i) kind e =
     (stmt_still f t u turned (take i t.body) (take i u.body) (bound_alike f t.body u.body turned.body i) kind)
     t.body u.body turned.body i e
 
-not_false : ¬ (false ≡ true)
-not_false e = cc
-
-differ : (b : Bool) → b ≡ false → ¬ (b ≡ true)
-differ b e h = not_false (sym e ∙ h)
-
 pub still_well : (f : List ℕ → List ℕ) (t u : Txn) → IsTurned f t u → IsWellFormedTxn t → IsWellFormedTxn u
 still_well f t u turned well = within
   where
     within : (n s : ℕ) (kind : CheckKind) → ¬ (faulty (alone u) n s kind ≡ true)
-    within zero zero Order = not_false
-    within zero zero Unread = not_false
-    within zero zero Unwritten = not_false
-    within zero zero LocalFault = not_false
-    within zero zero Limit = not_false
-    within zero (suc s) kind = not_false
-    within (suc zero) s kind = differ _ (place_still f t u turned s kind (false_from_ne_true (txn_faulty t s kind) (well 1 s kind)))
-    within (suc (suc n)) s kind = not_false
+    within zero zero Order = false≢true
+    within zero zero Unread = false≢true
+    within zero zero Unwritten = false≢true
+    within zero zero LocalFault = false≢true
+    within zero zero Limit = false≢true
+    within zero (suc s) kind = false≢true
+    within (suc zero) s kind = not_true _ (place_still f t u turned s kind (false_from_ne_true (txn_faulty t s kind) (well 1 s kind)))
+    within (suc (suc n)) s kind = false≢true
 
 pub instance_well : (p : Procedure) (ks : List (List ℕ)) (vs : List ℤ) → IsAccepted p → length vs ≡ length p.values → IsWellFormedTxn (instance p ks vs)
 instance_well p ks vs accepted e =

@@ -4,6 +4,7 @@ use Rattle.std.specs.Prelude.{pos}
 use Rattle.std.specs.Str.{bytes_eq}
 use Rattle.std.proofs.lemmas.Iterator.Adapters.{position_from-zero}
 use Rattle.std.proofs.lemmas.List.Quantifiers.{position-Some}
+use Rattle.std.proofs.lemmas.List.{map-id}
 use Rattle.bohm_types.specs.Keys.{rising, place}
 use Rattle.bohm_types.specs.Term.{Atom, Lit, Read, Local}
 use Rattle.bohm_types.specs.Stmt.{Cond, Stmt, Bind, Need, Has, Lacks, Put, Remove, Show, Fail}
@@ -50,10 +51,6 @@ body_same : (ss : List Stmt) → map (stmt_with (λ k. k)) ss ≡ ss
 body_same [] = refl
 body_same (s ∷ ss) = λ i. stmt_same s i ∷ body_same ss i
 
-keys_same : (ks : List (List ℕ)) → map (λ k. k) ks ≡ ks
-keys_same [] = refl
-keys_same (k ∷ ks) = ap (λ r. k ∷ r) (keys_same ks)
-
 zeros : (xs : List (List ℕ)) → lets xs (map (λ x. pos 0) xs) ≡ map let_zero xs
 zeros [] = refl
 zeros (x ∷ xs) = ap (λ r. let_zero x ∷ r) (zeros xs)
@@ -69,7 +66,7 @@ own_is_instance p reads writes =
     })
     ∙ (λ i. record {
       edition = p.edition;
-      reads = (ap key_set (keys_same p.reads) ∙ key_set_itself p.reads reads) i;
-      writes = (ap key_set (keys_same p.writes) ∙ key_set_itself p.writes writes) i;
+      reads = (ap key_set (map-id p.reads) ∙ key_set_itself p.reads reads) i;
+      writes = (ap key_set (map-id p.writes) ∙ key_set_itself p.writes writes) i;
       body = map let_zero p.values ++ body_same p.body i;
     })

@@ -1,10 +1,11 @@
 -- Reading windows from a reader.
 use Rattle.std.proofs.Common.{◌≡◌, inl, inr, ℕ, ◌+◌, ◌<◌, ◌≤◌, Bool, true, false, List, [], ◌∷◌, ◌++◌, length}
-use Rattle.std.proofs.Common.{take, drop, Some, None, refl, ap, sym, subst, ◌∙◌, arith, append_assoc, append-nil, length-append}
+use Rattle.std.proofs.Common.{take, drop, refl, ap, sym, subst, ◌∙◌, arith, append_assoc, append-nil, length-append}
 use Rattle.std.specs.Prelude.{codes, Option}
 use Rattle.std.specs.Io.KnownBytes.{Consumes, IsAtEnd}
 use Rattle.std.proofs.lemmas.Grind.{flat_map-append}
 use Rattle.std.proofs.lemmas.List.{take-append-le, take-append-drop}
+use Rattle.std.proofs.KnownBytes.{Consumes-nil, Consumes-trans}
 use Rattle.bohm_text.specs.Windows.{IsWindow}
 use Rattle.bohm_text.specs.Windowing.{IsWhole}
 use Rattle.bohm_text.proofs.ForCallers.{longer, lines_short, chunk_placed}
@@ -25,16 +26,6 @@ use Rattle.bohm_reading.specs.InOrder.{bytes_of, AreInOrder, logs_of, RefusesTex
 use Rattle.bohm_reading.proofs.InOrderLaws.{told}
 use Rattle.bohm_reading.specs.Reading.{IsTooLong, IsReading, IsReady, IsSourceFault, Drains, left_of, ReadsOn, RefusesAll, RefusesOn, IsReadOn}
 use Rattle.bohm_reading.specs.declared.reading.Source.{Source}
-
-pub Consumes-none : (u : Option (List ℕ)) → Consumes u u []
-Consumes-none None = tt
-Consumes-none (Some xs) = refl
-
-pub Consumes-more : (u v w : Option (List ℕ)) (a b : List ℕ) → Consumes u v a → Consumes v w b → Consumes u w (a ++ b)
-Consumes-more None v w a b one two = tt
-Consumes-more (Some x) None w a b one two = absurd one
-Consumes-more (Some x) (Some y) None a b one two = absurd two
-Consumes-more (Some x) (Some y) (Some z) a b one two = one ∙ (ap (λ (r : List ℕ). a ++ r) two ∙ sym (append_assoc a b z))
 
 -- ---- one more window
 
@@ -80,7 +71,7 @@ same_log d = ap (λ (log : List Txn). record d { log = log }) (append-nil d.log)
 pub on_none : (u : Option (List ℕ)) (d : Document) (s : Source) → IsReading u d [] s → IsReadOn u u d s.rest.items [] [] s
 on_none u d s is = record {
   more = [];
-  read = Consumes-none u;
+  read = Consumes-nil u;
   is = subst (λ (e : Document). IsReading u e [] s) (sym (same_log d)) is;
   same = ap (λ (e : Document). print_doc e ++ s.rest.items) (same_log d) ∙ ap (λ (r : List ℕ). print_doc d ++ r) (sym (append-nil s.rest.items));
 }
@@ -128,7 +119,7 @@ module _ (v x : Option (List ℕ)) (was now : Source) (p : Piece) (is : IsPiece 
     pub on_next : IsReadOn u x d first chunks (ahead ++ w ∷ []) now
     on_next = record {
       more = so_far.more ++ is.more;
-      read = Consumes-more u v x so_far.more is.more so_far.read is.read;
+      read = Consumes-trans u v x so_far.more is.more so_far.read is.read;
       is = record {
         sound = so_far.is.sound;
         lines = lines ∙ so_far.is.lines;
@@ -168,7 +159,7 @@ on_long u v x d first chunks ahead s so_far long = record {
     length-append first so_far.more,
     length-append so_far.more long.more,
   );
-  read = Consumes-more u v x so_far.more long.more so_far.read long.read;
+  read = Consumes-trans u v x so_far.more long.more so_far.read long.read;
 }
 
 -- ---- taking the first of the windows ahead
@@ -244,7 +235,7 @@ module _ (u v : Option (List ℕ)) (d : Document) (first : List ℕ) (chunks : L
       (subst (λ (f : Edition). RefusesWindow f w.text.items w.last was.lines fault) (sym same) refused)) in
       let all : RefusesAll u y d first fault = record {
         more = so_far.more ++ more;
-        read = Consumes-more u v y so_far.more more so_far.read read;
+        read = Consumes-trans u v y so_far.more more so_far.read read;
         at_end = at_end;
         short = omega (
           arith,
@@ -273,7 +264,7 @@ module _ (u v : Option (List ℕ)) (d : Document) (first : List ℕ) (chunks : L
   pub refused_last : (e : Edition) (fault : ReadingFault) → d.edition ≡ e → RefusesWindow e w.text.items w.last was.lines fault → was.ended ≡ true
       → RefusesOn u v d first (length (print_doc d ++ first)) fault
   refused_last e fault same refused ended =
-      on_fault e fault v [] same refused (Consumes-none v) (so_far.is.last ended).at_end (omega (arith, so_far.is.short)) (λ t. refl)
+      on_fault e fault v [] same refused (Consumes-nil v) (so_far.is.last ended).at_end (omega (arith, so_far.is.short)) (λ t. refl)
 
   -- a refused window refuses the text if the rest of the source was drained
   pub drained : (e : Edition) (fault result : ReadingFault) (y : Option (List ℕ)) → d.edition ≡ e → RefusesWindow e w.text.items w.last was.lines fault

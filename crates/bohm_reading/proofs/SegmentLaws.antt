@@ -3,6 +3,7 @@ use Rattle.std.proofs.Common.{◌≡◌, inl, inr, ℕ, ◌+◌, ◌≤◌, true
 use Rattle.std.proofs.Common.{length, ap, sym, subst, ◌∙◌, arith, append_assoc, length-append}
 use Rattle.std.specs.Prelude.{Option}
 use Rattle.std.specs.Io.KnownBytes.{Consumes, IsAtEnd}
+use Rattle.std.proofs.KnownBytes.{Consumes-trans}
 use Rattle.bohm_types.specs.Document.{Document}
 use Rattle.bohm_types.specs.Txn.{Txn}
 use Rattle.bohm_text.specs.Print.{print_doc}
@@ -19,7 +20,6 @@ use Rattle.bohm_reading.specs.Pieces.{IsPiece}
 use Rattle.bohm_reading.specs.InOrder.{RefusesText}
 use Rattle.bohm_reading.specs.Reading.{Drains, ReadsOn, RefusesAll, RefusesOn}
 use Rattle.bohm_reading.specs.Reading.{FirstRefused, ReadsTextOf, ReadsBeginning, RefusesReading}
-use Rattle.bohm_reading.proofs.ReadingLaws.{Consumes-more}
 
 refused_as : (u v : Option (List ℕ)) (text : List ℕ) → Consumes u v text → IsAtEnd v → length text ≤ 67108864 → (fault : ReadingFault)
     → RefusesText text fault → RefusesReading u v fault
@@ -48,13 +48,13 @@ module _ (u v : Option (List ℕ)) (begun : List ℕ) (none : begun ≡ []) (p :
       let inner = is.inner going in
       let told : RefusesText (is.more ++ h.1.more) fault = subst (λ (t : List ℕ). RefusesText t fault) (behind h.1.more)
       (refused (p.rest.items ++ h.1.more) (λ e. (inner.whole, longer p.rest.items h.1.more inner.next)) (λ e. absurd cc)) in
-      subst (RefusesReading u y) (sym h.0) (refused_as u y (is.more ++ h.1.more) (Consumes-more u v y is.more h.1.more is.read h.1.read) h.1.at_end
+      subst (RefusesReading u y) (sym h.0) (refused_as u y (is.more ++ h.1.more) (Consumes-trans u v y is.more h.1.more is.read h.1.read) h.1.at_end
       (omega (arith, length-append is.more h.1.more, is.total, h.1.short)) fault told)
   first_drained y fault result refused going (inr (inl h)) = rw h tt
   first_drained y fault result refused going (inr (inr h)) = rw h.0 record {
     more = is.more ++ h.1.more;
     long = omega (arith, h.1.long, is.total, length-append is.more h.1.more);
-    read = Consumes-more u v y is.more h.1.more is.read h.1.read;
+    read = Consumes-trans u v y is.more h.1.more is.read h.1.read;
   }
 
   -- if the first window is a document's text, reading begins with this document
@@ -94,7 +94,7 @@ module _ (u v y : Option (List ℕ)) (first : FirstWindow) (s : Source) (begun :
   all_behind more = sym (append_assoc (print_doc d) s.rest.items more) ∙ ap (λ (t : List ℕ). t ++ more) begun.same
 
   later : (fault : ReadingFault) → RefusesAll v y d s.rest.items fault → RefusesReading u y fault
-  later fault h = refused_as u y (begun.more ++ h.more) (Consumes-more u v y begun.more h.more begun.read h.read) h.at_end
+  later fault h = refused_as u y (begun.more ++ h.more) (Consumes-trans u v y begun.more h.more begun.read h.read) h.at_end
       (omega (arith, ap length (all_behind h.more), h.short)) fault (subst (λ (t : List ℕ). RefusesText t fault) (all_behind h.more) h.is)
 
   pub later_refused : (fault : ReadingFault) → RefusesOn v y d s.rest.items (length (print_doc d ++ s.rest.items)) fault → RefusesReading u y fault
@@ -103,7 +103,7 @@ module _ (u v y : Option (List ℕ)) (first : FirstWindow) (s : Source) (begun :
   later_refused TooLong h = record {
     more = begun.more ++ h.more;
     long = omega (arith, h.long, ap length begun.same, length-append begun.more h.more);
-    read = Consumes-more u v y begun.more h.more begun.read h.read;
+    read = Consumes-trans u v y begun.more h.more begun.read h.read;
   }
   later_refused (Line n) h = later (Line n) h
   later_refused Short h = later Short h
@@ -113,7 +113,7 @@ module _ (u v y : Option (List ℕ)) (first : FirstWindow) (s : Source) (begun :
       let same : print_doc (with_log d log) ≡ begun.more ++ h.more = h.print ∙ all_behind h.more in
       record {
         sound = h.sound;
-        read = subst (Consumes u y) (sym same) (Consumes-more u v y begun.more h.more begun.read h.read);
+        read = subst (Consumes u y) (sym same) (Consumes-trans u v y begun.more h.more begun.read h.read);
         at_end = h.at_end;
         short = omega (arith, ap length h.print, h.short);
       }

@@ -122,11 +122,11 @@ fn answer(alloc: Global, state: RunState, ts: u32) -> Result<Vec<u8>, NoMemory>
 ///
 /// The time grows with the text and its answer, with the terms of the transactions and the keys
 /// that they declare, and with the number of the store's keys k as k log k. Parsing is spread over
-/// `cc` threads, and the evaluation of long bodies over `exec` threads; all else is done by one
-/// thread, or by two if several workers execute. The memory grows with the keys of the log, with
-/// the text of the answer, and with 2 `cc` + 3 windows. A window has 32 KiB, 128 KiB for several
-/// executing workers, or is as long as the head and the store, or as a transaction, if these are
-/// longer.
+/// `cc` threads, and the evaluation of long bodies, with their replies, over `exec` threads; all
+/// else is done by one thread, or by two if several workers execute. The memory grows with the keys
+/// of the log, with the text of the answer, and with 2 `cc` + 3 windows. A window has 32 KiB, 128
+/// KiB for several executing workers, or is as long as the head and the store, or as a transaction,
+/// if these are longer.
 pub fn run_text<T: Threads + Wait + Sync + RandomSource + Copy + Send + 'static, R: Read, W: Write>(
     rt: &T,
     alloc: Global,

@@ -1,7 +1,7 @@
 -- Keys by their numbers.
-use Rattle.std.proofs.Common.{◌≡◌, ℕ, zero, suc, ◌+◌, ◌<◌, ◌∙◌, Bool, true, false, ◌||◌, cond, List, [], ◌∷◌, length, get_or, Some, None}
+use Rattle.std.proofs.Common.{◌≡◌, ℕ, zero, suc, ◌+◌, ◌<◌, ◌∙◌, Bool, true, false, ◌||◌, List, [], ◌∷◌, length, get_or, Some, None}
 use Rattle.std.proofs.Common.{refl, sym, ap, inl, inr, ◌⊎◌, ⊎_elim, arith, slice_get}
-use Rattle.std.specs.List.{IsDistinct, AllByRecursion, list_any, position, position_from}
+use Rattle.std.specs.List.{IsDistinct, AllByRecursion, position}
 use Rattle.std.proofs.lemmas.Iterator.Adapters.{position_from-zero}
 use Rattle.std.proofs.lemmas.List.Quantifiers.{position-Some}
 use Rattle.std.proofs.lemmas.Option.{get_or_from_slice_get, slice_get_within}
@@ -9,10 +9,12 @@ use Rattle.std.specs.Str.{bytes_eq}
 use Rattle.std.specs.Cmp.Lexicographic.{nat_list_eq_equiv}
 use Rattle.bohm_types.specs.Keys.{is_among}
 use Rattle.bohm_log.specs.Parts.{name_at}
+use Rattle.bohm_log.proofs.ForCallers.{none_from}
 use Rattle.bohm_txn.proofs.ForCallers.{among_then, key_itself, same_key}
 use Rattle.bohm_store.specs.declared.version.Version.{Version}
 use Rattle.bohm_store.specs.Versions.{versions_in}
 use Rattle.bohm_store.specs.Numbered.{named}
+use Rattle.bohm_board.proofs.ForCallers.{member_among}
 
 apart_at : (x : List ℕ) (names : List (List ℕ)) (i : ℕ) → AllByRecursion (λ y. bytes_eq x y ≡ false) names → i < length names
     → bytes_eq (get_or names i []) x ≡ false
@@ -73,21 +75,9 @@ among_place (x ∷ ks) (suc i) k lt e = among_then x k ks (among_place ks i k (o
 
 -- ---- a key that was looked up
 
-none_at : (test : List ℕ → Bool) (i : ℕ) (xs : List (List ℕ)) → position_from test i xs ≡ None → list_any test xs ≡ false
-none_at test i [] e = refl
-none_at test i (x ∷ xs) e =
-    elim (test x) as (λ b. cond b (Some i) (position_from test (i + 1) xs) ≡ None → (b || list_any test xs) ≡ false) [
-      | true ↦ λ none. absurd cc
-      | false ↦ λ none. none_at test (i + 1) xs none
-    ] e
-
-pub turned : (k : List ℕ) (xs : List (List ℕ)) → is_among xs k ≡ list_any (bytes_eq k) xs
-turned k [] = refl
-turned k (x ∷ xs) = rw (nat_list_eq_equiv.symm x k, turned k xs) refl
-
 -- a key that the look-up didn't find isn't among the names
 pub not_found : (names : List (List ℕ)) (k : List ℕ) → position (bytes_eq k) names ≡ None → is_among names k ≡ false
-not_found names k e = turned k names ∙ none_at (bytes_eq k) 0 names (sym (position_from-zero (bytes_eq k) names) ∙ e)
+not_found names k e = sym (member_among names k) ∙ none_from (bytes_eq k) 0 names (sym (position_from-zero (bytes_eq k) names) ∙ e)
 
 -- the index that the look-up found is the key's number
 pub found_at : (names : List (List ℕ)) (k : List ℕ) (n : ℕ) → position (bytes_eq k) names ≡ Some n → (n < length names) × (name_at names n ≡ k)

@@ -1,36 +1,21 @@
 -- Ascending versions: the newest at a timestamp gives the cell, and a floor keeps the newest and all later ones.
-use Rattle.std.proofs.Common.{◌≡◌, ℕ, zero, suc, ◌<◌, ◌≤◌, Bool, true, false, List, [], ◌∷◌, All, refl, sym, subst, inl, inr, ⊎_elim, ◌⊎◌, arith, nat_le}
+use Rattle.std.proofs.Common.{◌≡◌, ℕ, ◌<◌, ◌≤◌, Bool, true, false, List, [], ◌∷◌, All, refl, sym, subst, inl, inr, ⊎_elim, ◌⊎◌, arith, nat_le}
 use Rattle.std.specs.Prelude.{Contains, ◌↔◌}
 use Rattle.std.proofs.lemmas.Bool.{cases_lt}
 use Rattle.std.proofs.lemmas.Bool.Decides.{nat_tests}
-use Rattle.std.proofs.lemmas.List.Elements.{All-head, All-tail, All-nil, All-cons, All-weaker}
+use Rattle.std.proofs.lemmas.List.Elements.{All-head, All-tail, All-nil, All-cons, All-weaker, All-contains}
 use Rattle.bohm_types.specs.declared.cell.Cell.{Cell}
 use Rattle.bohm_types.specs.declared.cell.Cell.TheVariants.{Absent}
 use Rattle.bohm_store.specs.declared.version.Version.{Version}
 use Rattle.bohm_store.specs.Versions.{Rises, IsNewestAt, IsCellAt, IsKept, cell_at, kept_versions}
-
-contains_head : (v : Version) (vs : List Version) → Contains (v ∷ vs) v
-contains_head v vs = (0, omega arith, refl)
-
-contains_tail : (v w : Version) (vs : List Version) → Contains vs w → Contains (v ∷ vs) w
-contains_tail v w vs (k, lt, e) = (suc k, omega arith, e)
-
--- a version in a list is the first one or is in the rest
-contains_cases : (v w : Version) (vs : List Version) → Contains (v ∷ vs) w → (v ≡ w) ⊎ Contains vs w
-contains_cases v w vs (zero, lt, e) = inl e
-contains_cases v w vs (suc k, lt, e) = inr (k, omega arith, e)
-
-all_contains : (P : Version → Type 0) (vs : List Version) (w : Version) → All P vs → Contains vs w → P w
-all_contains P [] w h (k, lt, e) = absurd (omega arith)
-all_contains P (v ∷ vs) w h m =
-    ⊎_elim (λ same. subst P same (All-head P v vs h)) (λ there. all_contains P vs w (All-tail P v vs h) there) (contains_cases v w vs m)
+use Rattle.bohm_txn.proofs.ForCallers.{contains_head, contains_tail, contains_cases}
 
 -- ---- the cell at a timestamp
 
 -- the newest version at ts is still the newest when an earlier version is put in front
 newest_behind : (ts : ℕ) (v w : Version) (vs : List Version) → All (λ x. v.begin < x.begin) vs → IsNewestAt ts vs w → IsNewestAt ts (v ∷ vs) w
 newest_behind ts v w vs above n =
-    let lt : v.begin < w.begin = all_contains (λ x. v.begin < x.begin) vs w above n.there in
+    let lt : v.begin < w.begin = All-contains (λ x. v.begin < x.begin) vs w above n.there in
     record {
       there = contains_tail v w vs n.there;
       low = n.low;
@@ -142,7 +127,7 @@ from_by floor v w x ws false e r m more =
     let above = all_above floor w ws past r.1 in
     ⊎_elim
     (λ (same : v ≡ x). subst (λ y. IsKept floor (v ∷ w ∷ ws) y) same (kept_first floor v (w ∷ ws) above))
-    (λ (there : Contains (w ∷ ws) x). inl (contains_tail v x (w ∷ ws) there, all_contains (λ y. floor < y.begin) (w ∷ ws) x above there))
+    (λ (there : Contains (w ∷ ws) x). inl (contains_tail v x (w ∷ ws) there, All-contains (λ y. floor < y.begin) (w ∷ ws) x above there))
     (contains_cases v x (w ∷ ws) (rw e at m))
 
 from : (floor : ℕ) (vs : List Version) (x : Version) → Rises vs → Contains (kept_versions floor vs) x → IsKept floor vs x

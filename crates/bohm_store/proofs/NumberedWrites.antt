@@ -8,8 +8,6 @@ use Rattle.std.proofs.lemmas.Bool.{cases_eq, false≢true}
 use Rattle.std.proofs.lemmas.Bool.Decides.{nat_tests}
 use Rattle.std.proofs.lemmas.List.{get_or_append_left, take_more}
 use Rattle.std.proofs.lemmas.List.Elements.{All-head, All-tail, All-weaker}
-use Rattle.std.proofs.lemmas.Map.Keys.{apart_from_distinct}
-use Rattle.std.proofs.lemmas.Bool.{cases_lt}
 use Rattle.bohm_log.specs.Parts.{Begins, name_at}
 use Rattle.bohm_txn.proofs.ForCallers.{same_key, key_itself}
 use Rattle.bohm_types.specs.Keys.{is_among}
@@ -17,6 +15,7 @@ use Rattle.bohm_store.proofs.Names.{among_place}
 use Rattle.bohm_store.specs.Chains.{Climb, versions_of_writes}
 use Rattle.bohm_store.specs.declared.numbered_write.NumberedWrite.{NumberedWrite}
 use Rattle.bohm_store.specs.Writes.{AreBelow, ClimbTo, named_write, versions_by}
+use Rattle.bohm_place.proofs.ForCallers.{two_numbers}
 
 by_push : (ws : List NumberedWrite) (w : NumberedWrite) (n : ℕ)
     → versions_by (ws ++ w ∷ []) n ≡ versions_by ws n ++ (if (w.number == n) then w.version ∷ [] else [])
@@ -38,31 +37,11 @@ climb_more ws i m top w lt at h =
     let h' : ClimbTo m top (w ∷ drop (i + 1) ws) = subst (λ (xs : List NumberedWrite). ClimbTo m top xs) left h in
     h'
 
-climb_end_from : (m top : ℕ) (ws : List NumberedWrite) → ClimbTo m top ws → m ≤ top
-climb_end_from m top [] h = h
-climb_end_from m top (w ∷ ws) h = (let le = climb_end_from w.version.begin top ws h.1 in omega (arith, h.0))
-
 pub climb_end : (m top : ℕ) (ws : List NumberedWrite) → ClimbTo m top ws → m ≤ top
-climb_end m top ws h = climb_end_from m top ws h
+climb_end m top [] h = h
+climb_end m top (w ∷ ws) h = (let le = climb_end w.version.begin top ws h.1 in omega (arith, h.0))
 
 -- ---- the same writes by key
-
-below_of : (m n : ℕ) → m ≢ n → n ≤ m → n < m
-below_of m n apart ge = grind (arith, nat_tests)
-
--- keys with different numbers differ
-pub two_numbers : (names : List (List ℕ)) (m n : ℕ) → IsDistinct bytes_eq names → m < length names → n < length names → m ≢ n
-    → bytes_eq (name_at names m) (name_at names n) ≡ false
-two_numbers names m n distinct in_m in_n apart = ⊎_elim
-    (λ lt. apart_from_distinct bytes_eq names m n [] distinct lt in_n)
-    (λ ge. other (bytes_eq (name_at names m) (name_at names n)) refl (apart_from_distinct bytes_eq names n m [] distinct (below_of m n apart ge) in_m))
-    (cases_lt m n)
-  where
-    other : (b : Bool) → bytes_eq (name_at names m) (name_at names n) ≡ b → bytes_eq (name_at names n) (name_at names m) ≡ false → b ≡ false
-    other true e h =
-        (let same = same_key (name_at names m) (name_at names n) e in let h' : bytes_eq (name_at names n) (name_at names n)
-        ≡ false = subst (λ (k : List ℕ). bytes_eq (name_at names n) k ≡ false) same h in sym (key_itself (name_at names n)) ∙ h')
-    other false e h = refl
 
 keyed_by : (names : List (List ℕ)) (w : NumberedWrite) (ws : List NumberedWrite) (n : ℕ) → IsDistinct bytes_eq names
     → w.number < length names → n < length names → versions_of_writes (map (named_write names) ws) (name_at names n) ≡ versions_by ws n
@@ -118,12 +97,6 @@ unnamed_versions names (w ∷ ws) k below absent =
     (unnamed_versions names ws k (All-tail (λ (x : NumberedWrite). x.number < length names) w ws below) absent)
 
 -- ---- more names
-
-pub begins_self : (names : List (List ℕ)) → Begins names names
-begins_self names = ([], sym (append-nil names))
-
-pub begins_twice : (xs ys zs : List (List ℕ)) → Begins xs ys → Begins ys zs → Begins xs zs
-begins_twice xs ys zs (more, e) (others, f) = (more ++ others, f ∙ ap (λ (ns : List (List ℕ)). ns ++ others) e ∙ append_assoc xs more others)
 
 pub below_longer : (names names' : List (List ℕ)) (ws : List NumberedWrite) → Begins names names' → AreBelow (length names) ws → AreBelow (length names') ws
 below_longer names names' ws (more, e) below =

@@ -24,7 +24,7 @@ use Rattle.bohm_store.specs.declared.older.Older.{Older}
 use Rattle.bohm_store.specs.Held.{held_versions, held_at}
 use Rattle.bohm_store.specs.Numbered.{IsNumbered, named}
 use Rattle.bohm_store.proofs.Linked.{single_at}
-use Rattle.bohm_store.proofs.Names.{turned}
+use Rattle.bohm_board.proofs.ForCallers.{member_among}
 
 abbrev pub first_held : List ℕ × ℤ → Held
 first_held e = Present 0 e.1
@@ -109,7 +109,7 @@ next_named es i e rises lt is =
     let k : get_or ks i e.0 ≡ e.0 = get_or-map (λ (x : List ℕ × ℤ). x.0) es i e e.0 lt ∙ ap (λ (x : List ℕ × ℤ). x.0) (sym is) in
     let low : i < length ks = omega (arith, lt, length-map es (λ (x : List ℕ × ℤ). x.0)) in
     let none : is_among (take i ks) e.0 ≡ false = ap (λ (x : List ℕ). is_among (take i ks) x) (sym k) ∙ none_before ks i e.0 low (rising_apart ks rises) in
-    let new : list_any (bytes_eq e.0) (names_of (take i es)) ≡ false = ap (list_any (bytes_eq e.0)) taken ∙ sym (turned e.0 (take i ks)) ∙ none in
+    let new : list_any (bytes_eq e.0) (names_of (take i es)) ≡ false = ap (list_any (bytes_eq e.0)) taken ∙ member_among (take i ks) e.0 ∙ none in
     let more : names_of (take (i + 1) es) ≡ names_of (take i es) ++ e.0 ∷ [] =
     map_more (λ (x : List ℕ × ℤ). x.0) es i e lt ∙ ap (λ (x : List ℕ × ℤ). names_of (take i es) ++ x.0 ∷ []) (sym is) in
     rw new (sym more)

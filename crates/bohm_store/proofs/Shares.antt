@@ -1,5 +1,6 @@
 -- The writes of a batch, from lists of the writes of its parts, some of whose keys have no number yet.
-use Rattle.std.proofs.Common.{◌≡◌, ◌∙◌, ℕ, zero, suc, ◌+◌, ◌-◌, ◌*◌, ◌<◌, ◌≤◌, List, [], ◌∷◌, ◌++◌, All, length, map, take, drop, get_or, nat_lt, Some, refl, sym, ap, subst, arith}
+use Rattle.std.proofs.Common.{◌≡◌, ◌∙◌, ℕ, zero, suc, ◌+◌, ◌-◌, ◌*◌, ◌<◌, ◌≤◌, List, [], ◌∷◌, ◌++◌, length, map}
+use Rattle.std.proofs.Common.{take, drop, get_or, nat_lt, Some, refl, sym, ap, subst, arith}
 use Rattle.std.proofs.Common.{add-one, append-nil, append_assoc, length-append, ⊎_elim, slice_get, true, false}
 use Rattle.std.proofs.lemmas.Bool.{cases_lt}
 use Rattle.std.proofs.lemmas.Bool.Decides.{nat_tests}
@@ -17,7 +18,8 @@ use Rattle.bohm_store.specs.declared.listed_writes.FreshKey.{FreshKey}
 use Rattle.bohm_store.specs.declared.listed_writes.ListedWrites.{ListedWrites}
 use Rattle.bohm_store.specs.declared.numbered_write.NumberedWrite.{NumberedWrite}
 use Rattle.bohm_store.specs.Versions.{KeyedVersion}
-use Rattle.bohm_store.specs.Writes.{AreBelow, AreListedFrom, AreNumbersOf, AreShares, all_txn_writes, named_write, names_with, number_by, txn_writes, with_number}
+use Rattle.bohm_store.specs.Writes.{AreBelow, AreListedFrom, AreNumbersOf, AreShares, all_txn_writes, named_write, names_with}
+use Rattle.bohm_store.specs.Writes.{number_by, txn_writes, with_number}
 
 -- ---- the writes of a part of transactions
 
@@ -68,14 +70,6 @@ state_behind look [] (suc n) i = state_none look i ∙ sym (state_none look (suc
 state_behind look (t ∷ txns) (suc n) i =
     let more : suc (n + i) ≡ suc n + i = omega arith in
     state_behind (after look t) txns n i ∙ ap (λ (k : ℕ). state look (t ∷ txns) k) more
-
-pub behind_at : {A : Type 0} (xs : List A) (n i : ℕ) → slice_get (drop n xs) i ≡ slice_get xs (n + i)
-behind_at xs zero i = let none : i ≡ 0 + i = omega arith in ap (λ (k : ℕ). slice_get xs k) none
-behind_at [] (suc n) zero = let some : suc n ≡ suc n + 0 = omega arith in ap (λ (k : ℕ). slice_get [] k) some
-behind_at [] (suc n) (suc i) = let some : suc (n + suc i) ≡ suc n + suc i = omega arith in ap (λ (k : ℕ). slice_get [] k) some
-behind_at (x ∷ xs) (suc n) i =
-    let more : suc (n + i) ≡ suc n + i = omega arith in
-    behind_at xs n i ∙ ap (λ (k : ℕ). slice_get (x ∷ xs) k) more
 
 -- ---- fresh keys and their numbers
 
@@ -139,11 +133,6 @@ names_long names fresh = length-append names (map (λ g. g.key) fresh) ∙ ap (�
 pub last_there : (xs : List (List ℕ)) (x : List ℕ) (n : ℕ) → n ≡ length xs → slice_get (xs ++ x ∷ []) n ≡ Some x
 last_there [] x n e = rw e refl
 last_there (y ∷ xs) x n e = rw e (last_there xs x (length xs) refl)
-
-pub front_there : (xs ys : List (List ℕ)) (x : List ℕ) (n : ℕ) → slice_get xs n ≡ Some x → slice_get (xs ++ ys) n ≡ Some x
-front_there [] ys x n e = absurd cc
-front_there (y ∷ xs) ys x zero e = e
-front_there (y ∷ xs) ys x (suc n) e = front_there xs ys x n e
 
 -- ---- all writes of a batch
 

@@ -1,5 +1,6 @@
 -- The list of the writes of transactions that run one after another, by keys and by the numbers of keys.
-use Rattle.std.specs.Prelude.{◌≡◌, ℕ, ◌+◌, ◌-◌, ◌*◌, ◌<◌, ◌≤◌, ◌==◌, nat_lt, All, List, [], ◌∷◌, ◌++◌, length, map, take, drop, Some, slice_index, slice_index_or, if◌then◌else◌}
+use Rattle.std.specs.Prelude.{◌≡◌, ℕ, ◌+◌, ◌-◌, ◌*◌, ◌<◌, ◌≤◌, ◌==◌, nat_lt, List, [], ◌∷◌, ◌++◌, length, map, take, drop}
+use Rattle.std.specs.Prelude.{All, Some, slice_index, slice_index_or, if◌then◌else◌}
 use Rattle.std.specs.Map.{keys_of}
 use Rattle.bohm_types.specs.declared.cell.Cell.{Cell}
 use Rattle.bohm_types.specs.Txn.{Txn}

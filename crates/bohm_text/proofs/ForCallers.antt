@@ -11,5 +11,7 @@ pub use Rattle.bohm_text.proofs.WindowLaws.{lines_begin}
 pub use Rattle.bohm_text.proofs.OpenLaws.{whole_ended, open_line}
 -- windows after the text of a document
 pub use Rattle.bohm_text.proofs.Placed.{longer, lines_short, chunk_placed, bad_placed, short_placed, open_placed, bad_begins}
+-- a list that has something left
+pub use Rattle.bohm_text.proofs.Stepping.{some_left}
 -- replies that follow other replies
 pub use Rattle.bohm_text.specs.Numbered.{numbered-append}

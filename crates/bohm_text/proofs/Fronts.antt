@@ -8,13 +8,9 @@ use Rattle.std.proofs.lemmas.Bool.Decides.{Decides-eqb}
 use Rattle.std.specs.Cmp.{unsigned_Decides}
 use Rattle.std.specs.Str.{bytes_eq}
 use Rattle.std.proofs.lemmas.Bool.Decides.{same_from_decides}
-use Rattle.std.proofs.lemmas.List.{append-nil}
+use Rattle.std.proofs.lemmas.List.{append-nil, nil_from_length}
 use Rattle.std.proofs.lemmas.Slice.Eq.{bytes_eq-Decides, strip_prefix_is}
 use Rattle.bohm_text.specs.Cut.{split}
-
-none_left : (xs : List ℕ) → length xs ≡ 0 → xs ≡ []
-none_left [] e = refl
-none_left (x ∷ xs) e = absurd (omega (arith, e))
 
 -- the result of stripping the prefix `front` from a line
 abbrev IsStripped : List ℕ → List ℕ → Option (Bor (List ℕ)) → Type 0
@@ -59,7 +55,7 @@ pub whole_word : (word text rest : List ℕ) (none : Bool) → word ≡ text ++ 
 whole_word word text rest none e h = same_from_decides none (bytes_eq word text) (there, back) (bytes_eq-Decides word text)
   where
     there : none ≡ true → word ≡ text
-    there t = e ∙ ap (λ r. text ++ r) (none_left rest ((unsigned_Decides (length rest) 0).0 (sym h ∙ t))) ∙ append-nil text
+    there t = e ∙ ap (λ r. text ++ r) (nil_from_length rest ((unsigned_Decides (length rest) 0).0 (sym h ∙ t))) ∙ append-nil text
 
     back : word ≡ text → none ≡ true
     back q = h ∙ (unsigned_Decides (length rest) 0).1 (omega (arith, length-append text rest, ap length e, ap length q))

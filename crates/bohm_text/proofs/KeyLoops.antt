@@ -1,16 +1,13 @@
 -- Adding declared keys to a draft, one after another.
-use Rattle.std.proofs.Common.{◌≡◌, ℕ, true, List, [], ◌∷◌, Some, None, refl, ap, sym, ◌∙◌, append_assoc}
+use Rattle.std.proofs.Common.{◌≡◌, ℕ, List, [], ◌∷◌, Some, None, refl, ap, sym, ◌∙◌, append_assoc}
 use Rattle.std.specs.Prelude.{Option}
 use Rattle.std.specs.Option.{option_map}
 use Rattle.std.proofs.lemmas.List.{append-nil}
-use Rattle.bohm_types.specs.Name.{is_name, key_of}
+use Rattle.bohm_types.specs.Name.{key_of}
 use Rattle.bohm_log.specs.Drafting.{Drafted, with_read, with_write}
 use Rattle.bohm_text.specs.Print.{Words}
 use Rattle.bohm_text.specs.Reading.{◌>>=◌, keys_of}
 use Rattle.bohm_text.specs.Taking.{with_reads, with_writes}
-
-pub named_key : (word : List ℕ) → is_name word ≡ true → key_of word ≡ Some word
-named_key word e = rw e refl
 
 keys_of-cons : (words rest : Words) (word key : List ℕ) → words ≡ word ∷ rest → key_of word ≡ Some key
     → keys_of words ≡ (keys_of rest >>= λ keys. Some (key ∷ keys))

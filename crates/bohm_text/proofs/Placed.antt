@@ -12,9 +12,9 @@ use Rattle.bohm_text.specs.Front.{text_lines, Front}
 use Rattle.bohm_text.specs.Faults.{IsFirstBadLine, IsShort}
 use Rattle.bohm_text.specs.Windows.{with_log, head_line, headed, IsWindow}
 use Rattle.bohm_text.specs.Windowing.{IsWhole, ReadsFirst, ReadsWindow, IsChunkOf, IsBadWindow, IsOpenWindow, IsTextOf}
-use Rattle.bohm_text.proofs.WindowLaws.{lines_begin, lines_on, lines_of, headed_lines, window_found, window_line, window_short}
+use Rattle.bohm_text.proofs.WindowLaws.{lines_begin, lines_on, headed_lines, window_found, window_line, window_short}
 use Rattle.bohm_text.proofs.OpenLaws.{open_line}
-use Rattle.bohm_text.proofs.TextLaws.{bad_line, short}
+use Rattle.bohm_text.proofs.TextLaws.{bad_line, short, lines_of_text}
 use Rattle.bohm_text.specs.Parse.{ReadsBehind, ReadsText, text_fault_of}
 use Rattle.bohm_text.specs.declared.fault.TextFault.TheVariants as texts
 use Rattle.bohm_text.specs.declared.fault.WindowFault.{WindowFault}
@@ -26,7 +26,7 @@ chunk_placed bytes lines d window chunk so_far is =
     let both = window_found d so_far.sound chunk.log window is.sound is.print in
     let all : whole_lines (bytes ++ window) ≡ text_lines d ++ whole_lines window =
     ap (λ (b : List ℕ). whole_lines (b ++ window)) (sym so_far.print) ∙ lines_on d so_far.sound window in
-    let before : whole_lines bytes ≡ text_lines d = ap whole_lines (sym so_far.print) ∙ lines_of d so_far.sound in
+    let before : whole_lines bytes ≡ text_lines d = ap whole_lines (sym so_far.print) ∙ lines_of_text d so_far.sound in
     record {
       sound = both.0;
       print = both.1 ∙ ap (λ (b : List ℕ). b ++ window) so_far.print;

@@ -1,12 +1,9 @@
 -- A list that is printed element by element.
-use Rattle.std.proofs.Common.{◌≡◌, ℕ, suc, ◌+◌, List, [], ◌∷◌, map, ◌++◌, Some, ap, sym, ◌∙◌, slice_get, drop, add-one, drop-cons, append_assoc}
+use Rattle.std.proofs.Common.{◌≡◌, ℕ, ◌+◌, List, [], ◌∷◌, map, ◌++◌, Some, ap, sym, ◌∙◌, slice_get, drop, append_assoc}
 use Rattle.std.proofs.lemmas.Grind.{flat_map-append}
 use Rattle.std.proofs.lemmas.List.{map-append}
-use Rattle.std.proofs.lemmas.Option.{slice_get_within, get_or_from_slice_get}
 use Rattle.bohm_text.specs.Print.{Words, line_text, lines_text, spaced}
-
-drop_at : {A : Type 0} (xs : List A) (i : ℕ) (x : A) → slice_get xs i ≡ Some x → drop i xs ≡ x ∷ drop (i + 1) xs
-drop_at xs i x e = rw add-one (drop-cons xs i x (slice_get_within xs i x e) ∙ ap (λ y. y ∷ drop (suc i) xs) (get_or_from_slice_get xs i x x e))
+use Rattle.bohm_log.proofs.ForCallers.{drop_at}
 
 -- after element i is printed, the text of the elements from index i + 1 on is left to print
 pub print_more : {A : Type 0} (text : List A → List ℕ) (xs : List A) (i : ℕ) (x : A) (out piece longer whole : List ℕ) → slice_get xs i ≡ Some x

@@ -20,7 +20,8 @@ use Rattle.bohm_text.proofs.Again.{key_again, keys_again, stmt_again}
 use Rattle.bohm_text.proofs.Cutting.{lines_again, IsWithout}
 use Rattle.bohm_text.proofs.StepAgain.{cut, set_again, stmt_line}
 use Rattle.bohm_text.proofs.TextLaws.{line_lacks}
-use Rattle.bohm_text.proofs.WordLaws.{IsWord, All-map, name_word, stmt_are_words, names_are_words}
+use Rattle.bohm_text.proofs.WordLaws.{IsWord, name_word, stmt_are_words, names_are_words}
+use Rattle.bohm_log.proofs.ForCallers.{each_append, each_map}
 
 to : (p q : Stage) (line : List ℕ) (lines : List (List ℕ)) → stage_after p line ≡ Some q → stages p (line ∷ lines) ≡ stages q lines
 to p q line lines e = rw e refl
@@ -148,10 +149,6 @@ procedure_stages p sound =
 
 -- ---- no two procedures have the same text
 
-pub each_append : {A : Type 0} (P : A → Type 0) (xs ys : List A) → AllByRecursion P xs → AllByRecursion P ys → AllByRecursion P (xs ++ ys)
-each_append P [] ys h k = k
-each_append P (x ∷ xs) ys h k = (h.0, each_append P xs ys h.1 k)
-
 abbrev pub AreWords : Words → Type 0
 AreWords ws = AllByRecursion IsWord ws
 
@@ -162,21 +159,21 @@ head_are_words Two = (refl, (refl, tt))
 pub lines_are_words : (p : Procedure) → IsProcedure p → AllByRecursion AreWords (procedure_lines p)
 lines_are_words p sound = (
   head_are_words p.edition,
-  each_append AreWords (map key_words p.keys) _ (All-map IsName AreWords key_words (λ k name. (refl, (name_word k name, tt))) p.keys sound.keys)
+  each_append AreWords (map key_words p.keys) _ (each_map IsName AreWords key_words (λ k name. (refl, (name_word k name, tt))) p.keys sound.keys)
       (each_append AreWords (map value_words p.values) _
-      (All-map IsName AreWords value_words (λ x name. (refl, (name_word x name, tt))) p.values sound.values) (
+      (each_map IsName AreWords value_words (λ x name. (refl, (name_word x name, tt))) p.values sound.values) (
         (refl, names_are_words p.reads sound.reads),
         (
           (refl, names_are_words p.writes sound.writes),
           each_append AreWords (map stmt_words p.body) ((codes "end" ∷ []) ∷ [])
-              (All-map IsStmt AreWords stmt_words (λ s stmt. stmt_are_words s stmt) p.body sound.body) ((refl, tt), tt),
+              (each_map IsStmt AreWords stmt_words (λ s stmt. stmt_are_words s stmt) p.body sound.body) ((refl, tt), tt),
         ),
       )),
 )
 
 pub text_stages : (p : Procedure) → IsProcedure p → stages Nothing (whole_lines (print_procedure p)) ≡ Some (Done p)
 text_stages p sound =
-    let lack : AllByRecursion (IsWithout 10) (map line_text (procedure_lines p)) = All-map AreWords (IsWithout 10) line_text
+    let lack : AllByRecursion (IsWithout 10) (map line_text (procedure_lines p)) = each_map AreWords (IsWithout 10) line_text
     (λ ws words. line_lacks ws words) (procedure_lines p) (lines_are_words p sound) in
     ap (stages Nothing) (lines_again (map line_text (procedure_lines p)) lack) ∙ procedure_stages p sound
 

@@ -26,13 +26,13 @@ use Rattle.bohm_text.specs.declared.procedures.ParamPlace.TheVariants as places
 use Rattle.bohm_text.specs.declared.procedures.ProcedureReader.{ProcedureReader}
 use Rattle.bohm_text.specs.declared.fault.TextFault.{TextFault}
 use Rattle.bohm_log.specs.Drafting.{Drafted, IsBetween}
+use Rattle.bohm_log.proofs.ForCallers.{each_map}
 use Rattle.bohm_text.specs.ProcedureFaults.{Front, IsFirstBadLine, IsShort}
 use Rattle.bohm_text.proofs.ProcedureAgain.{procedure_stages, text_stages, lines_are_words, AreWords}
 use Rattle.bohm_text.proofs.ProcedureTakes.{stage_words, AreParams, IsSound, params, stages_add, procedure_found}
 use Rattle.bohm_text.proofs.Stepping.{none_after}
 use Rattle.bohm_text.proofs.Cutting.{lines_again, IsWithout}
 use Rattle.bohm_text.proofs.TextLaws.{line_lacks}
-use Rattle.bohm_text.proofs.WordLaws.{All-map}
 
 not_front : (ls : List (List ℕ)) → stages Nothing ls ≡ None → Front ls → ⊥
 not_front ls none front = none_after stage_after Nothing ls front.more (Done front.procedure) none
@@ -114,7 +114,7 @@ short_procedure text h = record { begins = front (whole_lines text) h.state h.re
   where
     none : (p : Procedure) → IsProcedure p → print_procedure p ≡ text → ⊥
     none p sound same =
-        let lack : AllByRecursion (IsWithout 10) (map line_text (procedure_lines p)) = All-map AreWords (IsWithout 10) line_text
+        let lack : AllByRecursion (IsWithout 10) (map line_text (procedure_lines p)) = each_map AreWords (IsWithout 10) line_text
         (λ ws words. line_lacks ws words) (procedure_lines p) (lines_are_words p sound) in
         let read : stages Nothing (whole_lines text) ≡ Some (Done p) = ap (λ (t : List ℕ). stages Nothing (whole_lines t)) (sym same) ∙ text_stages p sound in
         let stage : h.state ≡ Done p = same_Some h.state (Done p) (sym h.read ∙ read) in

@@ -24,7 +24,8 @@ use Rattle.bohm_text.proofs.WordTakes.{bind_some, chosen, if_some}
 use Rattle.bohm_text.proofs.Takes.{stmt_takes}
 use Rattle.bohm_text.proofs.Sounds.{stmt_sound, set_sound}
 use Rattle.bohm_text.proofs.StepTakes.{words_line, set_takes}
-use Rattle.bohm_text.proofs.ProcedureAgain.{new_first, each_append}
+use Rattle.bohm_text.proofs.ProcedureAgain.{new_first}
+use Rattle.bohm_log.proofs.ForCallers.{each_push}
 
 -- the lines that lead to this stage, as words
 abbrev pub stage_words : Stage → List Words
@@ -58,9 +59,6 @@ record Adds (p q : Stage) (line : List ℕ) : Type 0 where
   text : line_text words ≡ line
   same : stage_words q ≡ stage_words p ++ words ∷ []
   kept : IsSound p → IsSound q
-
-all_push : {A : Type 0} (P : A → Type 0) (xs : List A) (x : A) → AllByRecursion P xs → P x → AllByRecursion P (xs ++ x ∷ [])
-all_push P xs x h k = each_append P xs (x ∷ []) h (k, tt)
 
 new_push : (before ks : Words) (k : List ℕ) → all_new before ks ≡ true → is_among (before ++ ks) k ≡ false → all_new before (ks ++ k ∷ []) ≡ true
 new_push before [] k new fresh =
@@ -99,7 +97,7 @@ key_adds e ks q line w ws at is h =
       words = key_words b.0;
       text = words_line line (key_words b.0) (at ∙ (λ i. is i ∷ g.0 i));
       same = ap (λ (r : List Words). procedure_words e ∷ r) (map_push key_words ks b.0);
-      kept = λ s. record { keys = all_push IsName ks b.0 s.keys g.1; values = tt; apart_keys = new_push [] ks b.0 s.apart_keys n.0; apart_values = refl };
+      kept = λ s. record { keys = each_push IsName ks b.0 s.keys g.1; values = tt; apart_keys = new_push [] ks b.0 s.apart_keys n.0; apart_values = refl };
     })
 
 value_adds : (e : Edition) (ks vs : Words) (q : Stage) (line : List ℕ) (w : List ℕ) (ws : Words) → split 32 line ≡ w ∷ ws → w ≡ codes "value"
@@ -117,7 +115,7 @@ value_adds e ks vs q line w ws at is h =
       same = ap (λ (r : List Words). procedure_words e ∷ r) more;
       kept = λ s. record {
         keys = s.keys;
-        values = all_push IsName vs b.0 s.values g.1;
+        values = each_push IsName vs b.0 s.values g.1;
         apart_keys = s.apart_keys;
         apart_values = new_push ks vs
             b.0 s.apart_values n.0;
@@ -219,7 +217,7 @@ stage_adds (Body e ks vs reads writes body) q line h =
                 (map_push stmt_words body b.0)
                 ∙ sym (append_assoc (params e ks vs) ((codes "reads" ∷ reads) ∷ (codes "writes" ∷ writes) ∷ map stmt_words body)
                 (stmt_words b.0 ∷ []));
-            kept = λ s. (s.0, s.1, s.2, all_push IsStmt body b.0 s.3 (stmt_sound (split 32 line) b.0 b.1), s.4);
+            kept = λ s. (s.0, s.1, s.2, each_push IsStmt body b.0 s.3 (stmt_sound (split 32 line) b.0 b.1), s.4);
           })
     ]
 stage_adds (Done p) q line h = absurd cc

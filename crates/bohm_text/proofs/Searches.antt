@@ -8,26 +8,23 @@ use Rattle.std.specs.Simd.Lanes.{mask_l, top, zip2}
 use Rattle.std.proofs.lemmas.List.{length-map, length-take-le, take_all}
 use Rattle.std.proofs.lemmas.Simd.{mask_l-mod, tops_compared, trailing_mask_l, zip2_splat}
 use Rattle.std.proofs.lemmas.Option.{same_Some}
+use Rattle.std.proofs.lemmas.Bool.{false_from_ne_true}
 use Rattle.memchr.specs.Find.{IsFirstByte, is_byte}
 use Rattle.bohm_text.specs.Parse.{newline_in}
-
-is_false : (b : Bool) → ¬ (b ≡ true) → b ≡ false
-is_false true h = absurd (h refl)
-is_false false h = refl
 
 first_there : (test : ℕ → Bool) (xs : List ℕ) (n k : ℕ) → k < length xs → ((j : ℕ) → j < k → ¬ (test (slice_index xs j) ≡ true))
     → test (slice_index xs k) ≡ true → position_from test n xs ≡ Some (n + k)
 first_there test [] n k h none is = absurd (omega (arith, h))
 first_there test (x ∷ xs) n zero h none is = rw is (ap Some (omega arith))
 first_there test (x ∷ xs) n (suc k) h none is =
-    let not_here : test x ≡ false = is_false (test x) (none 0 (omega arith)) in
+    let not_here : test x ≡ false = false_from_ne_true (test x) (none 0 (omega arith)) in
     let later : n + 1 + k ≡ n + suc k = omega arith in
     rw not_here (first_there test xs (n + 1) k (omega (arith, h)) (λ j less. none (suc j) (omega (arith, less))) is ∙ ap Some later)
 
 none_there : (test : ℕ → Bool) (xs : List ℕ) (n : ℕ) → ((j : ℕ) → j < length xs → ¬ (test (slice_index xs j) ≡ true)) → position_from test n xs ≡ None
 none_there test [] n none = refl
 none_there test (x ∷ xs) n none =
-    let not_here : test x ≡ false = is_false (test x) (none 0 (omega arith)) in
+    let not_here : test x ≡ false = false_from_ne_true (test x) (none 0 (omega arith)) in
     rw not_here (none_there test xs (n + 1) (λ j less. none (suc j) (omega (arith, less))))
 
 pub first_newline : (bytes : List ℕ) (r : Option ℕ) → IsFirstByte (is_byte 10) bytes r → r ≡ newline_in bytes

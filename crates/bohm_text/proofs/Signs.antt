@@ -1,17 +1,12 @@
 -- A sign with a space after it is a word with another word after it.
 use Rattle.std.proofs.Common.{◌≡◌, ℕ, ◌<◌, Bool, true, false, cond, List, [], ◌∷◌, drop, get_or, length, Some, None, inl, inr, refl, sym, ◌∙◌, arith}
 use Rattle.std.specs.Prelude.{◌==◌, ◌&&◌, ◌||◌, nat_eq}
-use Rattle.std.proofs.lemmas.Bool.{eqb-true, or_cases}
+use Rattle.std.proofs.lemmas.Bool.{eqb-true, or_cases, and_parts}
 use Rattle.bohm_text.specs.Print.{Words}
 use Rattle.bohm_text.specs.Cut.{onto_first, split}
 use Rattle.bohm_text.specs.Reading.{sign_of}
 use Rattle.bohm_text.specs.Signs.{begins_signed, sign_ahead}
 use Rattle.bohm_text.proofs.Cutting.{split-some}
-
-both : (s t : Bool) → (s && t) ≡ true → (s ≡ true) × (t ≡ true)
-both true true e = (refl, refl)
-both true false e = absurd cc
-both false t e = absurd cc
 
 -- a first word is read as a sign if other words follow
 ahead : (sign : List ℕ) (words : Words) → 0 < length words → sign_ahead (sign ∷ words) ≡ sign_of sign
@@ -52,7 +47,7 @@ unfolding begins_signed split
 signed_words [] e = absurd cc
 signed_words (a ∷ []) e = absurd cc
 signed_words (a ∷ b ∷ bs) e =
-    let p = both (b == 32) ((a == 45) || (a == 43)) e in
+    let p = and_parts (b == 32) ((a == 45) || (a == 43)) e in
     elim (or_cases (a == 45) (a == 43) p.1) [
       | inl q ↦ rw (eqb-true a 45 q, eqb-true b 32 p.0) refl
       | inr q ↦ rw (eqb-true a 43 q, eqb-true b 32 p.0) refl
@@ -64,7 +59,7 @@ sign_there [] e = absurd cc
 sign_there (a ∷ []) e = absurd cc
 sign_there (a ∷ b ∷ bs) e =
     let words = signed_words (a ∷ b ∷ bs) e in
-    let p = both (b == 32) ((a == 45) || (a == 43)) e in
+    let p = and_parts (b == 32) ((a == 45) || (a == 43)) e in
     elim (or_cases (a == 45) (a == 43) p.1) [
       | inl q ↦ rw (words, ahead (a ∷ []) (split 32 bs) (split-some 32 bs), eqb-true a 45 q) refl
       | inr q ↦ rw (words, ahead (a ∷ []) (split 32 bs) (split-some 32 bs), eqb-true a 43 q) refl

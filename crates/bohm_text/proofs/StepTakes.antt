@@ -5,7 +5,7 @@ use Rattle.std.specs.Prelude.{ℤ, ◌==◌, codes}
 use Rattle.std.specs.List.{flat_map}
 use Rattle.std.specs.Str.{bytes_eq}
 use Rattle.std.proofs.lemmas.Bool.{eqb-true}
-use Rattle.std.proofs.lemmas.List.{map_push, append-nil}
+use Rattle.std.proofs.lemmas.List.{map_push, append-nil, map-append}
 use Rattle.std.proofs.lemmas.Option.{same_Some}
 use Rattle.bohm_types.specs.Stmt.{Stmt}
 use Rattle.bohm_types.specs.Txn.{Txn}
@@ -45,10 +45,6 @@ flat_map_push : {A B : Type 0} (f : A → List B) (xs : List A) (x : A) → flat
 flat_map_push f [] x = append-nil (f x)
 flat_map_push f (y ∷ ys) x = ap (λ r. f y ++ r) (flat_map_push f ys x) ∙ sym (append_assoc (f y) (flat_map f ys) (f x))
 
-map_append : {A B : Type 0} (f : A → B) (xs ys : List A) → map f (xs ++ ys) ≡ map f xs ++ map f ys
-map_append f [] ys = refl
-map_append f (x ∷ xs) ys = ap (λ r. f x ∷ r) (map_append f xs ys)
-
 -- the lines that lead to this progress
 abbrev pub progress_lines : Progress → List (List ℕ)
 progress_lines Nothing = []
@@ -84,7 +80,7 @@ txn_adds d reads writes body =
     let lines : map line_text (stores ++ flat_map txn_lines (d.log ++ t ∷ [])) ≡ map line_text (stores ++ before) ++ opened (statements ++ codes "end" ∷ []) =
     ap (λ (r : List Words). map line_text (stores ++ r)) (flat_map_push txn_lines d.log t)
     ∙ (ap (λ (r : List Words). map line_text r) (sym (append_assoc stores before (txn_lines t)))
-    ∙ (map_append line_text (stores ++ before) (txn_lines t) ∙ ap (λ (r : List (List ℕ)). map line_text (stores ++ before) ++ r) tail)) in
+    ∙ (map-append line_text (stores ++ before) (txn_lines t) ∙ ap (λ (r : List (List ℕ)). map line_text (stores ++ before) ++ r) tail)) in
     ap (λ (r : List (List ℕ)). line_text (head_words d.edition) ∷ r)
     (lines ∙ sym (append_assoc (map line_text (stores ++ before)) (opened statements) (codes "end" ∷ [])))
 

@@ -2,7 +2,7 @@
 use Rattle.std.proofs.Common.{◌≡◌, ℕ, zero, suc, false, ◌+◌, ◌-◌, ◌<◌, ◌≤◌, List, [], ◌∷◌, ◌++◌, length}
 use Rattle.std.proofs.Common.{take, Some, None, refl, ap, sym, ◌∙◌, arith, append_assoc, length-append}
 use Rattle.std.specs.Prelude.{Option, ◌==◌}
-use Rattle.std.proofs.lemmas.List.{take_at, append-nil}
+use Rattle.std.proofs.lemmas.List.{take_at, append-nil, nil_from_length}
 use Rattle.bohm_text.specs.Print.{text_of}
 use Rattle.bohm_text.specs.Cut.{whole_lines}
 use Rattle.bohm_text.specs.Reading.{◌>>=◌}
@@ -115,11 +115,7 @@ module _ {S : Type 0} {step : S → List ℕ → Option S} {start : S} {text : L
 
     pub whole_text : length rest ≡ 0 → text_of (whole_lines text) ≡ text
     whole_text empty = ap text_of all_done
-        ∙ (sym (append-nil (text_of so_far.done)) ∙ (ap (λ (xs : List ℕ). text_of so_far.done ++ xs) (sym (none_left rest empty)) ∙ so_far.bytes))
-      where
-        none_left : (xs : List ℕ) → length xs ≡ 0 → xs ≡ []
-        none_left [] e = refl
-        none_left (x ∷ xs) e = absurd (omega (arith, e))
+        ∙ (sym (append-nil (text_of so_far.done)) ∙ (ap (λ (xs : List ℕ). text_of so_far.done ++ xs) (sym (nil_from_length rest empty)) ∙ so_far.bytes))
 
     pub count_all : length (whole_lines text) ≡ count
     count_all = ap length all_done ∙ so_far.counted

@@ -4,12 +4,11 @@ use Rattle.std.specs.Prelude.{Option, codes, IsSome, ◌==◌}
 use Rattle.std.specs.List.{list_all, AllByRecursion}
 use Rattle.std.proofs.lemmas.List.{append-nil}
 use Rattle.std.proofs.lemmas.Option.{same_Some}
-use Rattle.bohm_types.specs.Document.{Document, same_edition, in_edition, document_of}
+use Rattle.bohm_types.specs.Document.{Document, in_edition, document_of}
 use Rattle.bohm_types.specs.Stmt.{Stmt}
 use Rattle.bohm_types.specs.Txn.{Txn}
 use Rattle.bohm_types.specs.declared.edition.Edition.{Edition}
-use Rattle.bohm_types.specs.declared.edition.Edition.TheVariants.{One, Two}
-use Rattle.bohm_txn.proofs.ForCallers.{each_append}
+use Rattle.bohm_types.specs.declared.edition.Edition.TheVariants.{One}
 use Rattle.bohm_text.specs.Print.{Words, line_text, spaced, text_of, doc_lines, print_doc}
 use Rattle.bohm_text.specs.Cut.{whole_lines}
 use Rattle.bohm_types.specs.Sound.{IsName, IsStmt, IsTxn, IsDocument}
@@ -18,11 +17,12 @@ use Rattle.bohm_text.specs.Front.{text_lines, Front}
 use Rattle.bohm_text.specs.Faults.{IsFirstBadLine, IsShort}
 use Rattle.bohm_text.specs.Parse.{IsFirstFault, IsUnfinished}
 use Rattle.bohm_text.proofs.Cutting.{IsWithout, lines_again}
-use Rattle.bohm_text.proofs.WordLaws.{All-map, IsLine, doc_are_lines, IsWord, word_lacks}
+use Rattle.bohm_text.proofs.WordLaws.{IsLine, doc_are_lines, IsWord, word_lacks}
 use Rattle.bohm_text.proofs.Stepping.{none_after}
 use Rattle.bohm_text.proofs.StepTakes.{progress_lines, steps_add, txn_adds}
 use Rattle.bohm_text.proofs.StepAgain.{document_steps}
 use Rattle.bohm_text.proofs.Sounds.{IsSound, steps_sound}
+use Rattle.bohm_log.proofs.ForCallers.{each_map, each_append, same_self}
 
 -- ---- no line has a newline
 
@@ -35,7 +35,7 @@ line_lacks [] words = tt
 line_lacks (w ∷ ws) words = each_append (λ b. b == 10 ≡ false) w (spaced ws) (word_lacks 10 w (omega arith) words.0) (spaced_lacks ws words.1)
 
 pub lines_lack : (d : Document) → IsDocument d → AllByRecursion (IsWithout 10) (text_lines d)
-lines_lack d sound = All-map IsLine (IsWithout 10) line_text (λ ws line. line_lacks ws line.1) (doc_lines d) (doc_are_lines d sound)
+lines_lack d sound = each_map IsLine (IsWithout 10) line_text (λ ws line. line_lacks ws line.1) (doc_lines d) (doc_are_lines d sound)
 
 pub lines_of_text : (d : Document) → IsDocument d → whole_lines (print_doc d) ≡ text_lines d
 lines_of_text d sound = lines_again (text_lines d) (lines_lack d sound)
@@ -122,10 +122,6 @@ unfinished text h d sound same =
     let read : steps Nothing (whole_lines text) ≡ Some (Between d) = ap (λ (t : List ℕ). steps Nothing (whole_lines t)) (sym same) ∙ text_steps d sound in
     let progress : h.state ≡ Between d = same_Some h.state (Between d) (sym h.read ∙ read) in
     h.unfinished d progress (ap text_of (ap whole_lines (sym same) ∙ lines_again (text_lines d) (lines_lack d sound)) ∙ same)
-
-same_self : (e : Edition) → same_edition e e ≡ true
-same_self One = refl
-same_self Two = refl
 
 pub in_one_edition : (e : Edition) (log : List Txn) → AllByRecursion (IsTxn e) log → list_all (in_edition e) log ≡ true
 in_one_edition e [] sound = refl

@@ -4,10 +4,10 @@ use Rattle.std.specs.List.{flat_map, AllByRecursion}
 use Rattle.bohm_types.specs.Document.{Document}
 use Rattle.bohm_types.specs.Sound.{IsDocument}
 use Rattle.std.proofs.lemmas.List.{append-nil}
-use Rattle.bohm_txn.proofs.ForCallers.{each_append}
 use Rattle.bohm_text.specs.Print.{Words, spaced, line_text, lines_text, head_words, store_words, txn_lines, doc_lines, print_doc}
 use Rattle.bohm_text.specs.Tidy.{IsTextByte, IsApart, AreApart, IsTidy}
 use Rattle.bohm_text.proofs.WordLaws.{IsWord, IsWordByte, word_bytes, word_byte-above, IsLine, doc_are_lines}
+use Rattle.bohm_log.proofs.ForCallers.{each_append}
 
 -- ---- bytes
 

@@ -12,16 +12,16 @@ use Rattle.bohm_types.specs.Txn.{Txn}
 use Rattle.bohm_types.specs.declared.edition.Edition.{Edition}
 use Rattle.bohm_types.specs.declared.edition.Edition.TheVariants.{One, Two}
 use Rattle.bohm_types.specs.Sound.{IsTxn, IsDocument}
-use Rattle.bohm_txn.proofs.ForCallers.{each_append}
 use Rattle.bohm_text.specs.Print.{line_text, txn_lines, text_of, print_doc}
 use Rattle.bohm_text.specs.Cut.{onto_first, whole_lines}
 use Rattle.bohm_text.specs.Step.{Progress, Nothing, Between, Opened, Reading, Body, steps}
 use Rattle.bohm_text.specs.Front.{text_lines, Front}
 use Rattle.bohm_text.specs.Faults.{IsFirstBadLine, IsShort}
 use Rattle.bohm_text.specs.Windows.{segment, with_log, head_line, headed, IsWindow}
-use Rattle.bohm_text.proofs.Cutting.{IsWithout, line_again, lines_again}
-use Rattle.bohm_text.proofs.TextLaws.{lines_lack, text_steps, front_some, not_front, found}
+use Rattle.bohm_text.proofs.Cutting.{IsWithout, line_again}
+use Rattle.bohm_text.proofs.TextLaws.{lines_lack, text_steps, front_some, not_front, found, lines_of_text}
 use Rattle.bohm_text.proofs.Behind.{IsInside, behind, inside_steps, read_alone, read_behind}
+use Rattle.bohm_log.proofs.ForCallers.{each_append}
 
 -- ---- lines of joined texts
 
@@ -51,9 +51,6 @@ text_lines_on (l ∷ ls) text lacks =
 
 pub lines_on : (d : Document) → IsDocument d → (text : List ℕ) → whole_lines (print_doc d ++ text) ≡ text_lines d ++ whole_lines text
 lines_on d sound text = text_lines_on (text_lines d) text (lines_lack d sound)
-
-pub lines_of : (d : Document) → IsDocument d → whole_lines (print_doc d) ≡ text_lines d
-lines_of d sound = lines_again (text_lines d) (lines_lack d sound)
 
 pub headed_lines : (e : Edition) (text : List ℕ) → whole_lines (headed e text) ≡ head_line e ∷ whole_lines text
 headed_lines One text = lines_on (segment One []) (record { store = tt; log = tt }) text
@@ -146,13 +143,13 @@ window_line d sound text rest window (suc k) h =
     (subst (λ (ls : List (List ℕ)). IsFirstBadLine ls (suc k + 1)) (headed_lines d.edition text) h)) in
     let all : whole_lines (print_doc d ++ (text ++ rest)) ≡ text_lines d ++ (codes "txn" ∷ lines ++ next.0) =
     lines_on d sound (text ++ rest) ∙ ap (λ (ls : List (List ℕ)). text_lines d ++ ls) (next.1 ∙ ap (λ (ls : List (List ℕ)). ls ++ next.0) are) in
-    rw (all, lines_of d sound) (line_behind d sound lines next.0 k alone)
+    rw (all, lines_of_text d sound) (line_behind d sound lines next.0 k alone)
 
 -- ---- short texts
 
 whole_window : (d c : Document) → IsDocument d → IsDocument c → (text : List ℕ) → print_doc c ≡ print_doc d ++ text → text_of (whole_lines text) ≡ text
 whole_window d c sound_d sound_c text same =
-    let again : text_of (whole_lines (print_doc d ++ text)) ≡ print_doc d ++ text = ap text_of (ap whole_lines (sym same) ∙ lines_of c sound_c) ∙ same in
+    let again : text_of (whole_lines (print_doc d ++ text)) ≡ print_doc d ++ text = ap text_of (ap whole_lines (sym same) ∙ lines_of_text c sound_c) ∙ same in
     append_cancel_left (print_doc d) (text_of (whole_lines text)) text
     (sym (flat_map-append (λ line. line ++ 10 ∷ []) (text_lines d) (whole_lines text)) ∙ (ap text_of (sym (lines_on d sound_d text)) ∙ again))
 

@@ -19,18 +19,13 @@ use Rattle.bohm_types.specs.declared.edition.Edition.{Edition}
 use Rattle.bohm_types.specs.declared.edition.Edition.TheVariants.{One, Two}
 use Rattle.bohm_types.specs.Document.{Document}
 use Rattle.bohm_types.specs.Sound.{IsName, IsAtom, IsTerm, IsCond, IsGuard, IsStmt, IsNumber, IsEntry, IsTxn, IsDocument}
-use Rattle.bohm_txn.proofs.ForCallers.{each_append}
 use Rattle.bohm_text.specs.Print.{Words, atom_word, first_word, further_words, sum_words, cmp_word, cond_words}
 use Rattle.bohm_text.specs.Print.{guard_words, stmt_words, store_words, txn_lines, head_words, doc_lines}
 use Rattle.bohm_text.specs.Tidy.{is_word_byte}
 use Rattle.bohm_text.proofs.Cutting.{IsWithout}
+use Rattle.bohm_log.proofs.ForCallers.{each_append, each_map}
 
 -- ---- lists
-
-pub All-map : {A B : Type 0} (P : A → Type 0) (Q : B → Type 0) (f : A → B) (h : (x : A) → P x → Q (f x)) (xs : List A) → AllByRecursion P xs
-    → AllByRecursion Q (map f xs)
-All-map P Q f h [] all = tt
-All-map P Q f h (x ∷ xs) all = (h x all.0, All-map P Q f h xs all.1)
 
 pub All-flat_map : {A B : Type 0} (P : A → Type 0) (Q : B → Type 0) (f : A → List B) (h : (x : A) → P x → AllByRecursion Q (f x)) (xs : List A)
     → AllByRecursion P xs → AllByRecursion Q (flat_map f xs)
@@ -211,7 +206,7 @@ stmt_some Fail = omega arith
 txn_are_lines : (edition : Edition) (t : Txn) → IsTxn edition t → AllByRecursion IsLine (txn_lines t)
 txn_are_lines edition t sound =
     let statements : AllByRecursion IsLine (map stmt_words t.body) =
-    All-map IsStmt IsLine stmt_words (λ s h. (stmt_some s, stmt_are_words s h)) t.body sound.body in
+    each_map IsStmt IsLine stmt_words (λ s h. (stmt_some s, stmt_are_words s h)) t.body sound.body in
     let reads : IsLine (codes "reads" ∷ t.reads) = (omega arith, (refl, names_are_words t.reads sound.reads)) in
     let writes : IsLine (codes "writes" ∷ t.writes) = (omega arith, (refl, names_are_words t.writes sound.writes)) in
     let opening : IsLine (codes "txn" ∷ []) = (omega arith, (refl, tt)) in
@@ -222,6 +217,6 @@ pub doc_are_lines : (d : Document) → IsDocument d → AllByRecursion IsLine (d
 doc_are_lines d sound = (
   head_is_line d.edition,
   each_append IsLine (map store_words d.store) (flat_map txn_lines d.log)
-      (All-map IsEntry IsLine store_words (λ entry h. (omega arith, entry_are_words entry h)) d.store sound.store)
+      (each_map IsEntry IsLine store_words (λ entry h. (omega arith, entry_are_words entry h)) d.store sound.store)
       (All-flat_map (IsTxn d.edition) IsLine txn_lines (txn_are_lines d.edition) d.log sound.log),
 )

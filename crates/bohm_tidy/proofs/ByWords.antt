@@ -1,5 +1,5 @@
 -- A line that is written word by word, and a text that is read line by line.
-use Rattle.std.proofs.Common.{◌≡◌, ℕ, zero, suc, true, false, get_or, add-one, drop-cons, ◌+◌, ◌-◌, ◌<◌, Bool, List, []}
+use Rattle.std.proofs.Common.{◌≡◌, ℕ, suc, true, ◌+◌, ◌-◌, ◌<◌, Bool, List, []}
 use Rattle.std.proofs.Common.{◌∷◌, ◌++◌, length, take, drop, Some, None, refl, ap, sym, subst, ◌∙◌, append_assoc, arith}
 use Rattle.std.specs.Prelude.{◌==◌}
 use Rattle.std.specs.List.{position_from}
@@ -19,13 +19,6 @@ apart_more signs before bs i b out longer whole at more so_far =
     ∙ append_assoc out (cut_text signs before b ++ shown b ∷ []) (apart signs b (drop (i + 1) bs))
     ∙ ap (λ (ys : List ℕ). out ++ apart signs before ys) (sym at)
     ∙ so_far
-
-pub byte_at : (bs : List ℕ) (i : ℕ) → i < length bs → drop i bs ≡ get_or bs i 0 ∷ drop (i + 1) bs
-byte_at bs i within = rw add-one (drop-cons bs i 0 within)
-
-pub some_left : (n : ℕ) → false ≡ (n == 0) → 0 < n
-some_left zero e = absurd cc
-some_left (suc n) e = omega arith
 
 pub none_left : (n : ℕ) → true ≡ (n == 0) → n ≡ 0
 none_left n e = eqb-true n 0 (sym e)

@@ -7,18 +7,17 @@ use Rattle.std.specs.FinMap as finite
 use Rattle.std.specs.FinMap.Entries.{is_sorted, below_all, put, by_order}
 use Rattle.std.specs.List.{AllByRecursion, IsDistinct}
 use Rattle.std.specs.List.Sorted.{IsPermutation}
-use Rattle.std.specs.Ordering.{nat_cmp, is_lt, is_eq}
+use Rattle.std.specs.Ordering.{nat_cmp, is_lt}
 use Rattle.std.specs.Str.{bytes_eq}
 use Rattle.std.specs.declared.cmp.Ordering.{Ordering}
 use Rattle.std.specs.declared.cmp.Ordering.TheVariants.{Less, Equal, Greater}
 use Rattle.std.proofs.lemmas.Bool.{and_parts}
 use Rattle.std.proofs.lemmas.List.Sorted.{IsPermutation-map, IsPermutation-sym}
 use Rattle.std.proofs.lemmas.Map.Keys.{IsDistinct-IsPermutation}
-use Rattle.std.proofs.lemmas.Map.Text.{is_eq-slice_cmp}
 use Rattle.bohm_types.specs.Keys.{names_of, rising, rises_from}
 use Rattle.bohm_types.specs.Sound.{IsEntry}
 use Rattle.bohm_txn.specs.Stores.{Store, store_of}
-use Rattle.bohm_txn.proofs.ForCallers.{less, rising_rest, same_moved}
+use Rattle.bohm_txn.proofs.ForCallers.{less, rising_rest, same_moved, rising_distinct}
 
 abbrev Entries : Type 0
 Entries = List (List ℕ × ℤ)
@@ -67,18 +66,6 @@ rising_entries es r =
     ap (λ (s : Store). finite.entries s) (sym same) ∙ finite.entries-from_sorted cmp es here
 
 -- ---- ascending keys are distinct
-
-differ_from : (a : List ℕ) (ks : List (List ℕ)) → rises_from a ks ≡ true → AllByRecursion (λ k. bytes_eq a k ≡ false) ks
-differ_from a [] r = tt
-differ_from a (k ∷ ks) r =
-    let (first, rest) = and_parts (is_lt (cmp a k)) (rises_from k ks) r in
-    let here : cmp a k ≡ Less = less (cmp a k) first in
-    (sym (is_eq-slice_cmp a k) ∙ ap is_eq here, differ_from a ks (rises_below a k ks here rest))
-
-pub rising_distinct : (ks : List (List ℕ)) → rising ks ≡ true → IsDistinct bytes_eq ks
-unfolding IsDistinct
-rising_distinct [] r = tt
-rising_distinct (k ∷ ks) r = (differ_from k ks r, rising_distinct ks (rising_rest k ks r))
 
 -- ---- entries that were sorted
 

@@ -3,7 +3,7 @@ use Rattle.std.proofs.Common.{◌≡◌, ℕ, zero, suc, ◌<◌, true, false, L
 use Rattle.std.specs.Prelude.{◌||◌}
 use Rattle.std.specs.Cmp.{tied_itself}
 use Rattle.std.specs.Cmp.Lexicographic.{slice_cmp, nat_list_cmp_total}
-use Rattle.std.specs.List.{list_any}
+use Rattle.std.specs.List.{list_any, AllByRecursion, IsDistinct}
 use Rattle.std.specs.Ordering.{nat_cmp, is_lt}
 use Rattle.std.specs.Str.{bytes_eq}
 use Rattle.std.specs.declared.cmp.Ordering.{Ordering}
@@ -11,14 +11,8 @@ use Rattle.std.specs.declared.cmp.Ordering.TheVariants.{Less, Equal, Greater}
 use Rattle.std.proofs.lemmas.Bool.{and_parts, false_from_ne_true}
 use Rattle.std.proofs.lemmas.Option.{slice_get-get_or}
 use Rattle.bohm_types.specs.Keys.{IsAmong, is_among, rising, rises_from}
-use Rattle.bohm_txn.proofs.Bodies.{same_key, key_itself, among_at}
-
-pub other_key : (x k : List ℕ) → bytes_eq x k ≡ false → bytes_eq k x ≡ false
-other_key x k e =
-    elim (bytes_eq k x) as (λ b. bytes_eq k x ≡ b → b ≡ false) [
-      | true ↦ λ h. absurd (let same : bytes_eq x k ≡ true = subst (λ y. bytes_eq x y ≡ true) (sym (same_key k x h)) (key_itself x) in cc)
-      | false ↦ λ h. refl
-    ] refl
+use Rattle.bohm_txn.proofs.Bodies.{among_at}
+use Rattle.bohm_log.proofs.ForCallers.{same_key, other_key}
 
 pub among_more : (x k : List ℕ) (xs : List (List ℕ)) → bytes_eq x k ≡ false → IsAmong (x ∷ xs) k → IsAmong xs k
 among_more x k xs e among = subst (λ b. (b || list_any (λ y. bytes_eq y k) xs) ≡ true) e among
@@ -75,3 +69,18 @@ none_before (k ∷ ks) zero d inside apart = refl
 none_before (k ∷ ks) (suc i) d inside apart =
     let there : IsAmong ks (get_or ks i d) = among_at ks i (get_or ks i d) (slice_get-get_or ks i d (omega arith)) in
     rw (differs k ks (get_or ks i d) apart.0 there, none_before ks i d (omega arith) apart.1) refl
+
+pub apart_each : (x : List ℕ) (ks : List (List ℕ)) → ¬ IsAmong ks x → AllByRecursion (λ y. bytes_eq x y ≡ false) ks
+apart_each x [] h = tt
+apart_each x (k ∷ ks) h = (
+  other_key k x (false_from_ne_true (bytes_eq k x) (λ e. h (among_first k x ks e))),
+  apart_each x ks (λ among. h (among_then k x ks among)),
+)
+
+distinct_apart : (ks : List (List ℕ)) → AllApart ks → IsDistinct bytes_eq ks
+unfolding IsDistinct
+distinct_apart [] h = tt
+distinct_apart (k ∷ ks) h = (apart_each k ks h.0, distinct_apart ks h.1)
+
+pub rising_distinct : (ks : List (List ℕ)) → rising ks ≡ true → IsDistinct bytes_eq ks
+rising_distinct ks h = distinct_apart ks (rising_apart ks h)

@@ -4,7 +4,6 @@ use Rattle.std.specs.Prelude.{ℤ, Result, if◌then◌else◌}
 use Rattle.std.specs.List.{AllByRecursion, slice_get}
 use Rattle.std.specs.Str.{bytes_eq}
 use Rattle.std.proofs.lemmas.List.{length-append}
-use Rattle.std.proofs.lemmas.Slice.Eq.{bytes_eq-Decides}
 use Rattle.std.proofs.lemmas.Map.Keys.{any_passes_from_place}
 use Rattle.std.proofs.lemmas.List.Sums.{sum_by-cons}
 use Rattle.bohm_types.specs.Parts.{is_show}
@@ -24,6 +23,7 @@ use Rattle.bohm_types.specs.Accesses.{StmtWrites}
 use Rattle.bohm_txn.specs.Declares.{IsUsable, shows_in}
 use Rattle.bohm_txn.specs.Tables.{Tables, all_written, cell_at, run_with, step, taken, written}
 use Rattle.bohm_txn.proofs.BodyLaw.{same_body}
+use Rattle.bohm_log.proofs.ForCallers.{key_itself, same_key}
 
 -- if the body ended well, P holds for its effects
 abbrev pub OnRun : (Run → Type 0) → Ended → Type 0
@@ -175,12 +175,6 @@ shows_counted look t run e =
     omega (arith, here.shows)
 
 -- ---- keys that aren't written keep their cells
-
-pub same_key : (x k : List ℕ) → bytes_eq x k ≡ true → x ≡ k
-same_key x k e = (bytes_eq-Decides x k).0 e
-
-pub key_itself : (k : List ℕ) → bytes_eq k k ≡ true
-key_itself k = (bytes_eq-Decides k k).1 refl
 
 pub among_at : (ks : List (List ℕ)) (j : ℕ) (k : List ℕ) → slice_get ks j ≡ Some k → IsAmong ks k
 among_at ks j k e = any_passes_from_place (λ x. bytes_eq x k) ks j k e (key_itself k)

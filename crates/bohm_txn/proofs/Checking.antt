@@ -14,10 +14,10 @@ use Rattle.bohm_types.specs.Txn.{Txn}
 use Rattle.bohm_types.specs.Keys.{rising}
 use Rattle.bohm_log.specs.declared.row.StmtRow.{StmtRow}
 use Rattle.bohm_log.specs.Parts.{Parts, stmt_of, txn_of}
+use Rattle.bohm_log.proofs.ForCallers.{drop_at}
 use Rattle.bohm_txn.specs.declared.fault.CheckKind.{CheckKind}
 use Rattle.bohm_txn.specs.Faulty.{stmt_faulty}
 use Rattle.bohm_txn.specs.FirstFault.{found_or, first_from, find_stmt, find_txn, first_in_txn, least}
-use Rattle.bohm_txn.proofs.Lists.{drop_at}
 use Rattle.bohm_txn.proofs.Rises.{below}
 
 pub counted_yes : {A : Type 0} (p : A → Bool) (xs : List A) (i : ℕ) (x : A) (n : ℕ) → slice_get xs i ≡ Some x → p x ≡ true → n ≡ count_by p (take i xs)

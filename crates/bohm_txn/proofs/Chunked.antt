@@ -146,9 +146,9 @@ pub some_not : (o : Option CheckFault) → is_some o ≡ true → o ≡ None →
 some_not None some e = cc
 some_not (Some f) some e = cc
 
-pub is_none : (o : Option CheckFault) → is_some o ≡ false → o ≡ None
+pub is_none : {A : Type 0} (o : Option A) → is_some o ≡ false → o ≡ None
 is_none None e = refl
-is_none (Some f) e = absurd cc
+is_none (Some x) e = absurd cc
 
 pub more_none : (d : Document) (ys : List Txn) (r : Option CheckFault) → IsCheckedTo d None → IsLogCheckedTo ys r → r ≡ None → IsCheckedTo (more d ys) None
 more_none d ys r so_far is e = checked_more d ys None so_far (subst (IsLogCheckedTo ys) e is)

@@ -14,8 +14,9 @@ use Rattle.std.proofs.lemmas.Map.Text.{is_eq-slice_cmp}
 use Rattle.std.proofs.lemmas.Option.{slice_get-map, slice_get_within, get_or_from_slice_get}
 use Rattle.bohm_types.specs.Keys.{is_among, rising, names_of}
 use Rattle.bohm_txn.specs.Stores.{store_of}
-use Rattle.bohm_txn.proofs.Apart.{other_key, rising_apart, none_before}
+use Rattle.bohm_txn.proofs.Apart.{rising_apart, none_before}
 use Rattle.bohm_txn.proofs.Stores.{tested, same_nat}
+use Rattle.bohm_log.proofs.ForCallers.{other_key}
 
 pub find_lookup : (es : List (List ℕ × ℤ)) (q : List ℕ) → find (slice_cmp nat_cmp) q es ≡ lookup (bytes_eq q) es
 find_lookup [] q = refl

@@ -80,7 +80,7 @@ doc_law d =
     (option_map (λ kind. (0, kind)) (least (whole_faulty d))) (whole_law d (least (whole_faulty d)) (least_law (whole_faulty d))) (first_in_log d.log)
     (from_law (Sooner Lesser) Q find_txn (λ i t. txn_law t) 0 d.log)
 
-not_true : (b : Bool) → b ≡ false → ¬ (b ≡ true)
+pub not_true : (b : Bool) → b ≡ false → ¬ (b ≡ true)
 not_true b e f = cc
 
 no_fault : (d : Document) (o : Option (ℕ × (ℕ × CheckKind))) → IsLeast (Sooner (Sooner Lesser)) (λ p. faulty d p.0 p.1.0 p.1.1) o

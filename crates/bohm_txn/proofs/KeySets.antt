@@ -15,8 +15,7 @@ use Rattle.std.proofs.lemmas.List.Sorted.{list_any-IsPermutation}
 use Rattle.std.proofs.lemmas.Map.Text.{is_eq-slice_cmp}
 use Rattle.bohm_types.specs.Keys.{is_among, rising, rises_from}
 use Rattle.bohm_types.specs.KeySets.{inserted_by, inserted, key_set}
-use Rattle.bohm_log.proofs.ForCallers.{among_key_set}
-use Rattle.bohm_txn.proofs.Bodies.{same_key, key_itself}
+use Rattle.bohm_log.proofs.ForCallers.{among_key_set, same_key, key_itself}
 use Rattle.bohm_txn.proofs.Apart.{less, among_first, rising_apart}
 
 abbrev cmp : List ℕ → List ℕ → Ordering

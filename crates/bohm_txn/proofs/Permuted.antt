@@ -9,7 +9,7 @@ use Rattle.std.specs.Cmp.Lexicographic.{nat_list_eq_equiv}
 use Rattle.std.proofs.lemmas.List.Sorted.{Contains-permutation, IsPermutation-map, IsPermutation-sym}
 use Rattle.std.proofs.lemmas.Map.Keys.{IsDistinct-IsPermutation}
 use Rattle.std.proofs.lemmas.Map.Views.{Contains-from_lookup, lookup-from_Contains}
-use Rattle.bohm_txn.proofs.Bodies.{same_key}
+use Rattle.bohm_log.proofs.ForCallers.{same_key}
 
 module _ {X : Type 0} where
   pub distinct_permuted : (xs ys : List (List ℕ × X)) → IsPermutation xs ys → IsDistinct bytes_eq (keys_of xs) → IsDistinct bytes_eq (keys_of ys)

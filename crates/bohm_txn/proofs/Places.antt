@@ -8,7 +8,8 @@ use Rattle.bohm_types.specs.declared.cell.Cell.{Cell}
 use Rattle.bohm_types.specs.Keys.{place, IsPlaceOf, rising}
 use Rattle.bohm_txn.specs.Tables.{cell_from, cell_at}
 use Rattle.bohm_txn.proofs.Apart.{AllApart, rising_apart}
-use Rattle.bohm_txn.proofs.Bodies.{same_key, key_itself, among_at}
+use Rattle.bohm_txn.proofs.Bodies.{among_at}
+use Rattle.bohm_log.proofs.ForCallers.{same_key, key_itself}
 
 later : (t : List ℕ → Bool) (i : ℕ) (xs : List (List ℕ)) → position_from t (i + 1) xs ≡ option_map suc (position_from t i xs)
 later t i [] = refl

@@ -25,11 +25,11 @@ use Rattle.bohm_log.specs.declared.row.StmtRow.{StmtRow}
 use Rattle.bohm_log.specs.declared.row.TermRow.{TermRow}
 use Rattle.bohm_log.specs.Parts.{Parts, PlaceIn, KeyIn, NameIn, RowIn, TermIn, IsApart, atom_at}
 use Rattle.bohm_log.specs.Parts.{name_at, key_at, named_by, stmt_made, stmt_of, sum_between, term_of}
+use Rattle.bohm_log.proofs.ForCallers.{key_itself, other_key}
 use Rattle.bohm_txn.specs.Faulty.{reads_among, binds, is_bound, is_unread, is_unwritten}
 use Rattle.bohm_txn.specs.Rows.{end_by, end_of, is_declared, tests_key, writes_key, binds_by, binds_at}
 use Rattle.bohm_txn.specs.Tables.{cell_at}
-use Rattle.bohm_txn.proofs.Bodies.{among_at, key_itself}
-use Rattle.bohm_txn.proofs.Apart.{other_key}
+use Rattle.bohm_txn.proofs.Bodies.{among_at}
 use Rattle.bohm_txn.proofs.Places.{cell_at_place}
 
 -- ---- the cell of a key at an index, and of an undeclared key

@@ -3,7 +3,7 @@ use Rattle.std.proofs.Common.{◌≡◌, ℕ, suc, ◌-◌, ◌≤◌, Bool, tru
 use Rattle.std.specs.Prelude.{not, ◌&&◌, nat_le}
 use Rattle.std.specs.List.{IsDistinct, between, list_all}
 use Rattle.std.specs.Str.{bytes_eq}
-use Rattle.std.proofs.lemmas.Bool.{ltb-true}
+use Rattle.std.proofs.lemmas.Bool.{ltb-true, and_parts}
 use Rattle.std.proofs.lemmas.List.{length-map, length-take-le, length-drop}
 use Rattle.std.proofs.lemmas.List.Folds.{list_all-append}
 use Rattle.bohm_types.specs.declared.edition.Edition.{Edition}
@@ -41,10 +41,6 @@ all_sums f Fail n x y z a b c = refl
 
 -- ---- terms that are literals, declared reads or locals with a note
 
-both : (a b : Bool) → (a && b) ≡ true → (a ≡ true) × (b ≡ true)
-both true b h = (refl, h)
-both false b h = absurd cc
-
 module _ (noted : List Bool) where
   declared_kind : (k : AtomKind) (i : ℕ) → is_at_hand noted k i ≡ true → is_declared k ≡ true
   declared_kind kinds.Small i h = refl
@@ -56,7 +52,7 @@ module _ (noted : List Bool) where
   are_declared : (ts : List TermRow) → list_all (λ t. is_at_hand noted t.kind t.place) ts ≡ true → list_all (λ t. is_declared t.kind) ts ≡ true
   are_declared [] h = refl
   are_declared (t ∷ ts) h =
-      let (here, later) = both _ _ h in
+      let (here, later) = and_parts _ _ h in
       rw (declared_kind t.kind t.place here, are_declared ts later) refl
 
   module _ (p : Parts) (before : List StmtRow) (apart : IsDistinct bytes_eq p.others) (rows : All (RowIn p) before) (are : AreNoted noted before) where
@@ -69,14 +65,14 @@ module _ (noted : List Bool) where
     local_bound kinds.Read i inside h = refl
     local_bound kinds.Unread i inside h = absurd cc
     local_bound kinds.Local i inside h =
-        let (few, note) = both _ _ h in
+        let (few, note) = and_parts _ _ h in
         bound_at p before i apart inside rows ∙ (sym (are i (ltb-true i 64 few)) ∙ note)
 
     locals_are_bound : (ts : List TermRow) → All (TermIn p) ts → list_all (λ t. is_at_hand noted t.kind t.place) ts ≡ true
         → list_all (λ term. locals_bound bodies term.1) (map (term_of p) ts) ≡ true
     locals_are_bound [] within h = refl
     locals_are_bound (t ∷ ts) within h =
-        let (here, later) = both _ _ h in
+        let (here, later) = and_parts _ _ h in
         rw (local_bound t.kind t.place (within 0 t (omega arith)) here, locals_are_bound ts (λ i d l. within (suc i) d (omega arith)) later) refl
 
 -- ---- statements whose key is declared, if they have one
@@ -110,8 +106,8 @@ module _ (p : Parts) (f : Bool × Atom → Bool) where
       → (list_all f (sum_between p i j) ≡ true) × ((list_all f (sum_between p j k) ≡ true) × (list_all f (sum_between p k l) ≡ true))
   parts i j k l a b c h =
       let rest : j ≤ l = omega (arith, b, c) in
-      let (first, others) = both _ _ (sym (list_all-append f (sum_between p i j) (sum_between p j l)) ∙ ap (list_all f) (two_sums p i j l a rest) ∙ h) in
-      let (second, third) = both _ _ (sym (list_all-append f (sum_between p j k) (sum_between p k l)) ∙ ap (list_all f) (two_sums p j k l b c) ∙ others) in
+      let (first, others) = and_parts _ _ (sym (list_all-append f (sum_between p i j) (sum_between p j l)) ∙ ap (list_all f) (two_sums p i j l a rest) ∙ h) in
+      let (second, third) = and_parts _ _ (sym (list_all-append f (sum_between p j k) (sum_between p k l)) ∙ ap (list_all f) (two_sums p j k l b c) ∙ others) in
       (first, (second, third))
 
 -- ---- the statement of a plain row has no fault
@@ -146,8 +142,8 @@ module _ (p : Parts) (r : StmtRow) (few_reads : length p.reads ≤ 16) (few_writ
 
   short_sums : has_short_sums r ≡ true → is_long (stmt_of p r) ≡ false
   short_sums h =
-      let (first, others) = both _ _ h in
-      let (second, third) = both _ _ others in
+      let (first, others) = and_parts _ _ h in
+      let (second, third) = and_parts _ _ others in
       ap not (of_sums (λ sum. nat_le (length sum) 16)
       (is_short p r.start r.first row.first (omega (arith, row.second, row.third, row.end)) first)
       (is_short p r.first r.second row.second (omega (arith, row.third, row.end)) second)
@@ -164,7 +160,7 @@ module _ (p : Parts) (r : StmtRow) (few_reads : length p.reads ≤ 16) (few_writ
 
   module _ (plain : is_plain_row r ≡ true) (at_hand : list_all (λ t. is_at_hand noted t.kind t.place) terms ≡ true) (within : All (TermIn p) terms) where
     placed : is_placed r.action r.declared ≡ true
-    placed = (both _ _ plain).0
+    placed = (and_parts _ _ plain).0
 
     all_read : list_all (list_all (λ term. reads_among p.reads term.1)) (sums (stmt_of p r)) ≡ true
     all_read = plain_terms (λ term. reads_among p.reads term.1) (terms_declared p terms few_reads within ∙ are_declared noted terms at_hand)
@@ -184,4 +180,4 @@ module _ (p : Parts) (r : StmtRow) (few_reads : length p.reads ≤ 16) (few_writ
 
     pub is_faultless : some_passes (is_bound before) (bound (stmt_of p r)) ≡ false → least (stmt_faulty (txn_of e p) before (stmt_of p r)) ≡ None
     is_faultless once = no_least (stmt_faulty (txn_of e p) before (stmt_of p r)) refl unread
-        (unwritten_row p r few_writes row ∙ writes_declared r.action r.declared placed) (misnamed once) (short_sums (both _ _ plain).1)
+        (unwritten_row p r few_writes row ∙ writes_declared r.action r.declared placed) (misnamed once) (short_sums (and_parts _ _ plain).1)

@@ -1,8 +1,8 @@
 -- The replies that rows represent, when rows and values are appended or removed.
-use Rattle.std.proofs.Common.{◌≡◌, ℕ, ◌-◌, ◌≤◌, List, [], ◌∷◌, ◌++◌, length, take, drop, map, refl, ap, sym, ◌∙◌, arith, length-append}
+use Rattle.std.proofs.Common.{◌≡◌, ℕ, ◌-◌, List, [], ◌∷◌, ◌++◌, length, take, map, refl, ap, sym, ◌∙◌, arith, length-append}
 use Rattle.std.specs.Prelude.{ℤ}
 use Rattle.std.specs.List.{All, AllByRecursion, between}
-use Rattle.std.proofs.lemmas.List.{take-append-le, drop-append-le, drop_at, length-drop, map-append, take-map}
+use Rattle.std.proofs.lemmas.List.{drop_at, map-append, take-map}
 use Rattle.std.proofs.lemmas.List.Elements.{All-push, All-weaker, recursion_from_All}
 use Rattle.std.proofs.lemmas.Slice.{between_to_end}
 use Rattle.bohm_txn.specs.declared.outcome.Reply.{Reply}
@@ -10,12 +10,7 @@ use Rattle.bohm_txn.specs.declared.outcome.Reply.TheVariants as replies_are
 use Rattle.bohm_txn.specs.declared.replies.ReplyRow.{ReplyRow}
 use Rattle.bohm_txn.specs.declared.replies.ReplyRow.TheVariants.{Commit, Abort}
 use Rattle.bohm_txn.specs.ReplyRows.{Adds, IsInside, reply_by}
-
-between-front : (xs more : List ℤ) (i j : ℕ) → j ≤ length xs → i ≤ j → between i j (xs ++ more) ≡ between i j xs
-between-front xs more i j within rises =
-    let short : i ≤ length xs = omega arith in
-    let room : j - i ≤ length (drop i xs) = omega (arith, length-drop i xs) in
-    rw (drop-append-le i xs more short) (take-append-le (j - i) (drop i xs) more room)
+use Rattle.bohm_log.proofs.ForCallers.{between-front}
 
 -- a row within the values has the same reply after values are appended
 same_reply : (values more : List ℤ) (row : ReplyRow) → IsInside values row → reply_by (values ++ more) row ≡ reply_by values row

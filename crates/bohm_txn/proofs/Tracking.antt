@@ -21,10 +21,10 @@ use Rattle.bohm_txn.specs.Meaning.{Look, Run, Ended, newest, then_try, then_do, 
 use Rattle.bohm_txn.specs.Meaning.{is_present, bind, write, show, needs, seen, perform, or_stop, body_from, body}
 use Rattle.bohm_txn.specs.Serial.{writes_of, shows_of, outcome_of}
 use Rattle.bohm_txn.specs.Tables.{cell_from, cell_at, set_from, replaced, seen_after, Tables, start, written, run_with, taken, step, stop_at, tables_from}
-use Rattle.bohm_txn.proofs.Apart.{other_key, among_first, among_then, among_more, AllApart}
-use Rattle.bohm_txn.proofs.Bodies.{same_key, key_itself}
+use Rattle.bohm_txn.proofs.Apart.{among_first, among_then, among_more, AllApart}
 use Rattle.bohm_txn.proofs.Places.{place-cons}
 use Rattle.bohm_txn.proofs.BodyLaw.{same_stmt}
+use Rattle.bohm_log.proofs.ForCallers.{other_key, same_key, key_itself}
 
 -- ---- a key's cell and its replacement, by recursion on the keys
 

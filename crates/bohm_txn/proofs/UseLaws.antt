@@ -1,8 +1,10 @@
 -- The order and the limits in a well-formed document and its transactions.
-use Rattle.std.proofs.Common.{◌≡◌, ℕ, zero, suc, ◌≤◌, List, [], ◌∷◌, length, take, get_or, ◌<◌, Bool, true, false, Option, Some, None, refl, sym, subst, arith}
+use Rattle.std.proofs.Common.{◌≡◌, ℕ, zero, suc, ◌≤◌, List, [], ◌∷◌, length, take, get_or, Bool, true, false, Option, Some, None, refl, sym, subst, arith}
 use Rattle.std.specs.Prelude.{not, ◌||◌, ◌&&◌, nat_le}
 use Rattle.std.specs.List.{All, AllByRecursion, list_all, slice_get}
 use Rattle.std.proofs.lemmas.Bool.Decides.{nat_tests}
+use Rattle.std.proofs.lemmas.Bool.{false≢true}
+use Rattle.std.proofs.lemmas.Option.{slice_get-get_or}
 use Rattle.bohm_txn.specs.declared.fault.CheckKind.{CheckKind}
 use Rattle.bohm_txn.specs.declared.fault.CheckKind.TheVariants.{Order, Unread, Unwritten, Local, Limit}
 use Rattle.bohm_types.specs.Term.{Atom, Lit, Read}
@@ -16,16 +18,13 @@ use Rattle.bohm_txn.specs.Faulty.{passes_at, txn_faulty, stmt_faulty, faulty, We
 use Rattle.bohm_types.specs.Accesses.{OnSomeKey, AtomReads, SumReads, StmtReads, StmtWrites}
 use Rattle.bohm_txn.specs.Declares.{IsUsable, AllShort, shows_in}
 
-not_false : ¬ (false ≡ true)
-not_false e = cc
-
 kept : (b : Bool) → ¬ (not b ≡ true) → b ≡ true
 kept true h = refl
 kept false h = absurd (h refl)
 
 not_left : (a b : Bool) → ¬ ((a || b) ≡ true) → ¬ (a ≡ true)
 not_left true b h = λ e. h refl
-not_left false b h = not_false
+not_left false b h = false≢true
 
 not_right : (a b : Bool) → ¬ ((a || b) ≡ true) → ¬ (b ≡ true)
 not_right true b h = λ e. h refl
@@ -44,7 +43,7 @@ all_kept p P each (x ∷ xs) h =
 
 -- ---- a document's transactions
 
-at_some : {A : Type 0} (p : A → Bool) (xs : List A) (i : ℕ) (x : A) → slice_get xs i ≡ Some x → p x ≡ true → passes_at p xs i ≡ true
+pub at_some : {A : Type 0} (p : A → Bool) (xs : List A) (i : ℕ) (x : A) → slice_get xs i ≡ Some x → p x ≡ true → passes_at p xs i ≡ true
 at_some p [] i x e h = absurd cc
 at_some p (y ∷ ys) zero x e h = let same : y ≡ x = cc in rw same h
 at_some p (y ∷ ys) (suc i) x e h = at_some p ys i x e h
@@ -53,22 +52,17 @@ pub txn_in : (d : Document) (i : ℕ) (t : Txn) → WellFormed d → slice_get d
 txn_in d i t well e = within
   where
     within : (n s : ℕ) (kind : CheckKind) → ¬ (faulty (alone t) n s kind ≡ true)
-    within zero zero Order = not_false
-    within zero zero Unread = not_false
-    within zero zero Unwritten = not_false
-    within zero zero Local = not_false
-    within zero zero Limit = not_false
-    within zero (suc s) kind = not_false
+    within zero zero Order = false≢true
+    within zero zero Unread = false≢true
+    within zero zero Unwritten = false≢true
+    within zero zero Local = false≢true
+    within zero zero Limit = false≢true
+    within zero (suc s) kind = false≢true
     within (suc zero) s kind = λ h. well (suc i) s kind (at_some (λ u. txn_faulty u s kind) d.log i t e h)
-    within (suc (suc n)) s kind = not_false
-
-got : {A : Type 0} (xs : List A) (i : ℕ) (d : A) → i < length xs → slice_get xs i ≡ Some (get_or xs i d)
-got [] i d l = absurd (omega arith)
-got (x ∷ xs) zero d l = refl
-got (x ∷ xs) (suc i) d l = got xs i d (omega arith)
+    within (suc (suc n)) s kind = false≢true
 
 pub all_in : (d : Document) → WellFormed d → All IsWellFormedTxn d.log
-all_in d well = λ k t l. txn_in d k (get_or d.log k t) well (got d.log k t l)
+all_in d well = λ k t l. txn_in d k (get_or d.log k t) well (slice_get-get_or d.log k t l)
 
 pub rising_store : (d : Document) → WellFormed d → rising (names_of d.store) ≡ true
 rising_store d well = kept (rising (names_of d.store)) (well 0 0 Order)
@@ -110,7 +104,7 @@ atom_reads keys (atoms.Local x) e = tt
 
 sum_reads : (keys : List (List ℕ)) (sum : List (Bool × Atom)) → list_all (λ term. reads_among keys term.1) sum ≡ true → SumReads (IsAmong keys) sum
 sum_reads keys sum e = all_kept (λ term. reads_among keys term.1) (λ term. AtomReads (IsAmong keys) term.1) (λ term h. atom_reads keys term.1 h) sum
-    (subst (λ b. ¬ (not b ≡ true)) (sym e) not_false)
+    (subst (λ b. ¬ (not b ≡ true)) (sym e) false≢true)
 
 on_key : (keys : List (List ℕ)) (o : Option (List ℕ)) → ¬ (some_passes (λ k. not (is_among keys k)) o ≡ true) → OnSomeKey (IsAmong keys) o
 on_key keys None h = tt

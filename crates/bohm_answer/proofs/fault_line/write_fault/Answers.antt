@@ -1,10 +1,11 @@
 use Rattle.std.proofs.Common.{[], ◌∷◌}
 use Rattle.bohm_answer.specs.FaultLine.{fault_words}
-use Rattle.bohm_answer.proofs.Fronts.{on_err, then_err, wider}
+use Rattle.bohm_answer.proofs.Fronts.{then_err, wider}
 use Rattle.bohm_answer.proofs.fault_line.write_fault.Goals as goal
+use Rattle.bohm_log.proofs.ForCallers.{on_err}
 
 pub returns-in_err-write_words-clause-err : goal.returns-in_err-write_words-clause-err
-returns-in_err-write_words-clause-err g c = on_err _ c.from_residual.result
+returns-in_err-write_words-clause-err g c = on_err c.from_residual.result
     (wider _ _ (fault_words c.args.fault.now) (10 ∷ []) c.in_err-write_words.ensures.err)
 
 pub returns-clause-err : goal.returns-clause-err

@@ -1,11 +1,12 @@
 use Rattle.std.proofs.Common.{◌≡◌, ℕ, List, [], ◌∷◌, OnErr, subst}
 use Rattle.std.specs.Fmt.{decimal}
 use Rattle.bohm_answer.specs.FaultLine.{AppendsFront}
-use Rattle.bohm_answer.proofs.Fronts.{on_err, then_err, wider}
+use Rattle.bohm_answer.proofs.Fronts.{then_err, wider}
 use Rattle.bohm_answer.proofs.fault_line.write_spaced.Goals as goal
+use Rattle.bohm_log.proofs.ForCallers.{on_err}
 
 pub returns-in_err-write_bytes-clause-err : goal.returns-in_err-write_bytes-clause-err
-returns-in_err-write_bytes-clause-err g c = on_err _ c.from_residual.result (wider _ _ (32 ∷ []) (decimal c.args.number) c.in_err-write_bytes.ensures.err)
+returns-in_err-write_bytes-clause-err g c = on_err c.from_residual.result (wider _ _ (32 ∷ []) (decimal c.args.number) c.in_err-write_bytes.ensures.err)
 
 pub returns-clause-err : goal.returns-clause-err
 returns-clause-err g c =

@@ -11,7 +11,7 @@ use Rattle.bohm_exec.specs.Answers.{batch_of_finished}
 use Rattle.bohm_store.specs.declared.listed_writes.ListedWrites.{ListedWrites}
 use Rattle.bohm_store.specs.Writes.{AreListedFrom}
 use Rattle.bohm_apply.specs.Replies.{replies_of}
-use Rattle.bohm_apply.proofs.Replying.{on_err}
+use Rattle.bohm_log.proofs.ForCallers.{on_err}
 use Rattle.bohm_apply.proofs.Shares.{Joins, comes_next, one_more_range}
 use Rattle.bohm_apply.proofs.Swept.{nothing_left}
 use Rattle.bohm_apply.proofs.settling.settle_batch.Given.{Over}
@@ -77,22 +77,22 @@ loop-share-preserved g c =
     let (low, found) = comes_next at.yielded x rest c.in_ok-shares.shares.items whole in
     let given = c.in_ok-shares.ensures.replies n x low in
     let made = rw (found, c.in_ok-replies.was) at given in
-    let given_list = c.in_ok-shares.ensures.listed n x low in
-    let own_list : AreListedFrom (keys_of c.args.history.now.chains) b (n * size) size c.in_ok-replies.field-0.listed =
+    let given_list = c.in_ok-shares.ensures.writes n x low in
+    let own_list : AreListedFrom (keys_of c.args.history.now.chains) b (n * size) size c.in_ok-replies.field-0.writes =
     (rw (found, c.in_ok-replies.was) at given_list) in
     let listed = at.listed.items in
     let P : ℕ → ListedWrites → Type 0 = λ i l. AreListedFrom (keys_of c.args.history.now.chains) b (i * size) size l in
     record {
       items = append_assoc at.yielded (x ∷ []) rest ∙ so_far;
       count = omega (arith, was.count, steps.1, ap length steps.0);
-      many = ap length c.in_ok-push.ensures.items ∙ length-append listed (c.in_ok-replies.field-0.listed ∷ []) ∙ (λ i. was.many i + 1)
+      many = ap length c.in_ok-push.ensures.items ∙ length-append listed (c.in_ok-replies.field-0.writes ∷ []) ∙ (λ i. was.many i + 1)
           ∙ sym (length-append at.yielded (x ∷ []));
       replies = rw (length_push at.yielded x) (one_more_range g.S.ReplySink.is_bare g.S.ReplySink.appended (joins g) c.args.finished.now
           c.args.answered.now at.answered c.append.new.self c.in_ok-replies.field-0.replies n (length c.in_ok-shares.shares.items) size
           c.in_ok-append.ensures.ok low c.in_ok-shares.ensures.last made was.replies);
-      listed = rw c.in_ok-push.ensures.items (λ i d below. each_pushed P listed c.in_ok-replies.field-0.listed was.listed
-          (subst (λ (k : ℕ). P k c.in_ok-replies.field-0.listed) (sym was.many) own_list) i d
-          (omega (arith, below, length-append listed (c.in_ok-replies.field-0.listed ∷ []))));
+      listed = rw c.in_ok-push.ensures.items (λ i d below. each_pushed P listed c.in_ok-replies.field-0.writes was.listed
+          (subst (λ (k : ℕ). P k c.in_ok-replies.field-0.writes) (sym was.many) own_list) i d
+          (omega (arith, below, length-append listed (c.in_ok-replies.field-0.writes ∷ []))));
     }
 
 pub returns-clause-replies : goal.returns-clause-replies

@@ -1,10 +1,10 @@
 use Rattle.std.proofs.Common.{◌≡◌, ◌+◌, ◌-◌, ℕ, suc, length, drop, sym, subst, ◌∙◌, ap, arith}
 use Rattle.std.specs.Prelude.{if◌then◌else◌}
+use Rattle.std.proofs.lemmas.List.{length-map}
 use Rattle.bohm_types.specs.Keys.{names_of}
 use Rattle.bohm_txn.proofs.ForCallers.{falls, climbs}
 use Rattle.bohm_check.specs.Lines.{first_fall}
 use Rattle.bohm_check.proofs.Falling.{fall_at, last_falls}
-use Rattle.bohm_check.proofs.Rows.{mapped_length}
 use Rattle.bohm_check.proofs.finding.first_fall.Goals as goal
 
 pub returns-then-ge : goal.returns-then-ge
@@ -31,6 +31,6 @@ loop-index-preserved c =
 pub returns : goal.returns
 returns c =
     let names = names_of c.args.store.now in
-    let size : length names ≡ length c.args.store.now = mapped_length (λ e. e.0) c.args.store.now in
+    let size : length names ≡ length c.args.store.now = length-map c.args.store.now (λ e. e.0) in
     let last = last_falls names c.loop-index.index (omega (arith, size, c.loop-index-test.false)) in
     omega (arith, last, size, c.loop-index.invariant.0, c.loop-index.invariant.1, c.loop-index-test.false)

@@ -1,13 +1,9 @@
-use Rattle.std.proofs.Common.{◌≡◌, ◌<◌, ◌≤◌, ◌==◌, ◌∙◌, List, [], ◌∷◌, ℕ, true, length, get_or, refl, sym, ap, subst, ⊎_elim, arith}
+use Rattle.std.proofs.Common.{◌≡◌, ◌<◌, ◌≤◌, ◌==◌, ◌∙◌, [], ℕ, true, length, get_or, sym, ap, subst, ⊎_elim, arith}
 use Rattle.std.proofs.lemmas.Bool.{cases_lt}
 use Rattle.std.proofs.lemmas.Bool.Decides.{nat_tests}
-use Rattle.std.proofs.lemmas.List.{get_or_read}
+use Rattle.std.proofs.lemmas.List.{get_or_read, nil_from_length}
 use Rattle.bohm_exec.specs.Asides.{Pairs, positions_in}
 use Rattle.bohm_exec.proofs.completion.are_empty.Goals as goal
-
-none_in : (pairs : Pairs) → length pairs ≡ 0 → pairs ≡ []
-none_in [] e = refl
-none_in (p ∷ pairs) e = absurd (omega (arith, e))
 
 pub loop-aside-preserved : goal.loop-aside-preserved
 loop-aside-preserved c i d lt =
@@ -15,7 +11,7 @@ loop-aside-preserved c i d lt =
     let item : Pairs = c.aside-item.result in
     let tested : true ≡ (length c.pairs.result.now == 0) = c.if-not-is_empty.ensures in
     let zero : length c.pairs.result.now ≡ 0 = grind (arith, nat_tests) in
-    let none : item ≡ [] = none_in item (sym (ap length c.pairs.ensures) ∙ zero) in
+    let none : item ≡ [] = nil_from_length item (sym (ap length c.pairs.ensures) ∙ zero) in
     ⊎_elim
     (λ (low : i < at). c.loop-aside.invariant i d low)
     (λ (high : at ≤ i).

@@ -1,14 +1,15 @@
 use Rattle.std.proofs.Common.{◌≡◌, ◌+◌, ◌-◌, length, drop, ap, arith}
 use Rattle.std.proofs.lemmas.List.{length_push}
 use Rattle.bohm_txn.proofs.ForCallers.{drop_at}
-use Rattle.bohm_explain.proofs.Usable.{usable_item, few_keys}
+use Rattle.bohm_explain.proofs.Usable.{few_keys}
 use Rattle.bohm_explain.proofs.Sources.{right_source, paired, behind_first, one_arrow, no_arrow}
 use Rattle.bohm_explain.proofs.arrow.put_arrows.Goals.{in-Before, in-Within+in_ok-push-in-Within}
 use Rattle.bohm_explain.proofs.arrow.put_arrows.Goals as goal
+use Rattle.bohm_place.proofs.ForCallers.{usable_at}
 
 pub overflow_cast-index : goal.overflow_cast-index
 overflow_cast-index c =
-    let few = few_keys c.args.set c.txn.result (usable_item c.args.txns.now c.args.to c.txn.result c.requires.formed c.txn.ensures) in
+    let few = few_keys c.args.set c.txn.result (usable_at c.args.txns.now c.requires.formed c.args.to c.txn.result c.txn.ensures) in
     omega (arith, ap length c.keys-keys.ensures)
 
 pub access-access-requires-clause-index : goal.access-access-requires-clause-index
@@ -61,5 +62,5 @@ loop-index-preserved c =
 
 pub returns-clause-few : goal.returns-clause-few
 returns-clause-few c =
-    let few = few_keys c.args.set c.txn.result (usable_item c.args.txns.now c.args.to c.txn.result c.requires.formed c.txn.ensures) in
+    let few = few_keys c.args.set c.txn.result (usable_at c.args.txns.now c.requires.formed c.args.to c.txn.result c.txn.ensures) in
     omega (arith, ap length c.keys-keys.ensures)

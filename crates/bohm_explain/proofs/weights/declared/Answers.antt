@@ -1,11 +1,11 @@
 use Rattle.std.proofs.Common.{arith}
 use Rattle.bohm_explain.specs.Weighing.{declared_by}
 use Rattle.bohm_explain.proofs.Further.{sum_more}
-use Rattle.bohm_explain.proofs.Usable.{usable_item}
 use Rattle.bohm_explain.proofs.weights.declared.Goals as goal
+use Rattle.bohm_place.proofs.ForCallers.{usable_at}
 
 pub declared_by-keys-requires : goal.declared_by-keys-requires
-declared_by-keys-requires c = usable_item _ _ _ c.requires.formed c.txn.ensures
+declared_by-keys-requires c = usable_at _ c.requires.formed _ _ c.txn.ensures
 
 pub loop-index-preserved : goal.loop-index-preserved
 loop-index-preserved c =

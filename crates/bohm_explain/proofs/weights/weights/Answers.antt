@@ -1,10 +1,10 @@
 use Rattle.std.proofs.Common.{append_assoc, rules}
 use Rattle.bohm_txn.proofs.ForCallers.{drop_at}
-use Rattle.bohm_explain.proofs.Usable.{usable_item}
 use Rattle.bohm_explain.proofs.weights.weights.Goals as goal
+use Rattle.bohm_place.proofs.ForCallers.{usable_at}
 
 pub weight-requires : goal.weight-requires
-weight-requires c = usable_item _ _ _ c.requires.formed c.txn.ensures
+weight-requires c = usable_at _ c.requires.formed _ _ c.txn.ensures
 
 pub loop-index-preserved : goal.loop-index-preserved
 loop-index-preserved c = record {

@@ -4,8 +4,8 @@ use Rattle.bohm_types.specs.contracts.edition.Edition.{the_type}
 use Rattle.bohm_types.specs.declared.edition.Edition.{Edition}
 use Rattle.bohm_types.specs.declared.edition.Edition.TheVariants.{One, Two}
 use Rattle.bohm_types.specs.Document.{in_edition, same_edition}
-use Rattle.bohm_log.proofs.Viewing.{drop_at}
 use Rattle.bohm_log.proofs.doc.are_in.Goals as goal
+use Rattle.bohm_log.proofs.Lists.{drop_at}
 
 compared : (a b : Edition) → sameb the_type a b ≡ same_edition a b
 compared One One = refl

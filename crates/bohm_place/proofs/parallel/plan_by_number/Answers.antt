@@ -18,7 +18,8 @@ gather-requires-clause-each g c κs within w d low =
     rw many (rw (worker.0, worker.1) at each)
 
 pub new-requires : goal.new-requires
-new-requires g c = are_rows c.args.first c.args.txns.now c.in_ok-rows.rows.items c.requires.plannable.position c.requires.plannable.room c.in_ok-rows.ensures.rows
+new-requires g c = are_rows c.args.first c.args.txns.now c.in_ok-rows.rows.items c.requires.plannable.position c.requires.plannable.room
+    c.in_ok-rows.ensures.rows
 
 pub returns-clause-planned : goal.returns-clause-planned
 returns-clause-planned g c =

@@ -58,7 +58,8 @@ gather-requires-clause-each g c κs lives w d low =
     (rw (worker.0, worker.1) at right) own inside long) each)
 
 pub new-requires : goal.new-requires
-new-requires g c = are_rows c.args.first c.args.txns.now c.in_ok-rows.rows.items c.requires.plannable.position c.requires.plannable.room c.in_ok-rows.ensures.rows
+new-requires g c = are_rows c.args.first c.args.txns.now c.in_ok-rows.rows.items c.requires.plannable.position c.requires.plannable.room
+    c.in_ok-rows.ensures.rows
 
 -- each access has the newest placeholder of its key from the earlier transactions of the batch
 rows_planned : (g : given.Over) (c : After-new g) → c.new.result.rows ≡ nested (ahead_of c.args.first) 0 [] c.args.txns.now

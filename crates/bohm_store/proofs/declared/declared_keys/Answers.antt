@@ -1,4 +1,4 @@
-use Rattle.std.proofs.Common.{◌∙◌, ◌++◌, List, ℕ, ap, sym}
+use Rattle.std.proofs.Common.{◌∙◌, ◌++◌, sym}
 use Rattle.bohm_store.proofs.DeclaredKeys.{declared_more}
 use Rattle.bohm_store.proofs.declared.declared_keys.Goals as goal
 

@@ -1,8 +1,8 @@
 use Rattle.std.proofs.Common.{◌≡◌, length, take, arith}
 use Rattle.bohm_store.proofs.Advanced.{numbers_longer, numbers_more}
 use Rattle.bohm_store.proofs.Names.{placed_at}
-use Rattle.bohm_store.proofs.NumberedWrites.{begins_self, begins_twice}
 use Rattle.bohm_store.proofs.numbering.number_all.Goals as goal
+use Rattle.bohm_log.proofs.ForCallers.{Begins-itself, Begins-trans}
 
 pub loop-i-init : goal.loop-i-init
 loop-i-init c =
@@ -11,7 +11,7 @@ loop-i-init c =
     omega (arith, c.len-i.ensures, c.push_hinted.new.numbers.ok) in
     rw count (record {
       inside = hinted.inside;
-      longer = begins_self c.args.names.now;
+      longer = Begins-itself c.args.names.now;
       numbers = rw (← c.table.ensures.names) hinted.numbers;
     })
 
@@ -27,7 +27,7 @@ loop-i-preserved c =
     let (inside, is) = placed_at names k n c.in_ok-number.ensures.named in
     rw c.in_ok-push.ensures.items (record {
       inside = omega (arith, c.loop-i-test.true);
-      longer = begins_twice c.args.names.now at.names names was.longer longer;
+      longer = Begins-trans c.args.names.now at.names names was.longer longer;
       numbers = numbers_more names at.numbers.items keys at.i n k c.key.ensures inside is
           (numbers_longer at.names names at.numbers.items (take at.i keys) longer was.numbers);
     })

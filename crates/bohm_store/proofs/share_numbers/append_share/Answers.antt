@@ -3,12 +3,13 @@ use Rattle.std.proofs.lemmas.Bool.Decides.{nat_tests}
 use Rattle.std.proofs.lemmas.List.{length-map, length-take-le, map-append, nil_from_length, take-append-drop}
 use Rattle.std.proofs.lemmas.List.Elements.{All-append}
 use Rattle.bohm_log.specs.Parts.{Begins}
+use Rattle.bohm_log.proofs.ForCallers.{Begins-trans}
 use Rattle.bohm_store.specs.Versions.{KeyedVersion}
 use Rattle.bohm_store.specs.declared.listed_writes.FreshKey.{FreshKey}
 use Rattle.bohm_store.specs.declared.numbered_write.NumberedWrite.{NumberedWrite}
 use Rattle.bohm_store.specs.Writes.{AreBelow, AreNumbersOf, named_write, names_with, with_number}
 use Rattle.bohm_store.proofs.Advanced.{numbers_long}
-use Rattle.bohm_store.proofs.NumberedWrites.{begins_twice, below_longer, longer_writes}
+use Rattle.bohm_store.proofs.NumberedWrites.{below_longer, longer_writes}
 use Rattle.bohm_store.proofs.Shares.{names_long, renumbered_below, renumbered_named}
 use Rattle.bohm_store.proofs.share_numbers.append_share.Goals as goal
 use Rattle.bohm_store.proofs.share_numbers.append_share.Goals.{Start}
@@ -51,7 +52,7 @@ returns c =
     let longer = c.number_fresh.ensures.longer in
     let are : AreNumbersOf names' numbers keys =
     subst (λ (fs : List FreshKey). AreNumbersOf names' numbers (map (λ f. f.key) fs)) c.deref-2.ensures.value c.in_ok-numbers.ensures.numbers in
-    let behind = begins_twice start names names' (front (goal.at.returns c).Start) longer in
+    let behind = Begins-trans start names names' (front (goal.at.returns c).Start) longer in
     let out : c.append_renumbered.new.out.items ≡ old ++ map (with_number known numbers) ws =
     c.in_ok-append_renumbered.ensures ∙ ap (λ (ns : List ℕ). old ++ map (with_number known ns) ws) c.deref-3.ensures.value in
     record {
@@ -59,7 +60,8 @@ returns c =
       below = rw out (All-append (λ (w : NumberedWrite). w.number < length names') old (map (with_number known numbers) ws)
           (below_longer names names' old longer c.requires.below) (renumbered_below start names' keys known numbers long behind are ws c.requires.share));
       listed = ap (map (named_write names')) out ∙ map-append (named_write names') old (map (with_number known numbers) ws)
-          ∙ (λ i. longer_writes names names' old longer c.requires.below i ++ renumbered_named start names' keys known numbers long behind are ws c.requires.share i);
+          ∙ (λ i. longer_writes names names' old longer c.requires.below i
+          ++ renumbered_named start names' keys known numbers long behind are ws c.requires.share i);
     }
 
 pub returns-then-is_empty-clause-listed : goal.returns-then-is_empty-clause-listed
@@ -75,7 +77,9 @@ returns-then-is_empty-clause-listed c =
     let none : fresh ≡ [] = nil_from_length fresh zero in
     let bare : names_with start fresh ≡ start = ap (names_with start) none ∙ append-nil start in
     let below = subst (λ (ns : List (List ℕ)). AreBelow (length ns) ws) bare c.requires.share in
-    let out : c.extend_from_slice.new.self.items ≡ old ++ ws = c.in_ok-extend_from_slice.ensures.items ∙ ap (λ (xs : List NumberedWrite). old ++ xs) c.deref.ensures.value in
+    let out : c.extend_from_slice.new.self.items ≡ old ++ ws = c.in_ok-extend_from_slice.ensures.items
+    ∙ ap (λ (xs : List NumberedWrite). old ++ xs) c.deref.ensures.value in
     ap (map (named_write names)) out ∙ map-append (named_write names) old ws
     ∙ ap (λ (vs : List KeyedVersion). map (named_write names) old ++ vs)
-    (longer_writes start names ws (front (goal.at.returns-then-is_empty-clause-listed c).Start) below ∙ ap (λ (ns : List (List ℕ)). map (named_write ns) ws) (sym bare))
+    (longer_writes start names ws (front (goal.at.returns-then-is_empty-clause-listed c).Start) below
+    ∙ ap (λ (ns : List (List ℕ)). map (named_write ns) ws) (sym bare))

@@ -1,22 +1,20 @@
-use Rattle.std.proofs.Common.{◌≡◌, ◌∙◌, ◌+◌, ◌*◌, ◌++◌, ◌<◌, ◌≤◌, List, ℕ, length, map, take, drop, ap, sym, arith, subst, refl, suc, length-append}
+use Rattle.std.proofs.Common.{◌≡◌, ◌∙◌, ◌+◌, ◌*◌, ◌++◌, ◌<◌, ◌≤◌, List, ℕ, length, map, take, ap, sym, arith, subst, refl, suc, length-append}
 use Rattle.std.proofs.Math.Nat.{suc-mul}
 use Rattle.std.proofs.Math.Seq.{take-append_seam}
 use Rattle.std.proofs.lemmas.List.{take_all}
 use Rattle.std.proofs.lemmas.List.Elements.{All-nil}
-use Rattle.bohm_types.specs.Txn.{Txn}
 use Rattle.bohm_board.specs.declared.batch.Batch.{Batch}
 use Rattle.bohm_board.specs.Batches.{base_of, first_of, txns_of}
-use Rattle.bohm_store.specs.declared.listed_writes.ListedWrites.{ListedWrites}
 use Rattle.bohm_store.specs.declared.numbered_write.NumberedWrite.{NumberedWrite}
 use Rattle.bohm_store.specs.Writes.{AreBelow, AreListedFrom, AreShares, all_txn_writes, named_write, names_with}
 use Rattle.bohm_store.proofs.Shares.{written_between}
-use Rattle.bohm_store.proofs.NumberedWrites.{begins_self, begins_twice}
 use Rattle.bohm_store.proofs.share_numbers.gather_shares.Goals as goal
 use Rattle.bohm_store.proofs.share_numbers.gather_shares.Goals.{After-share-item}
+use Rattle.bohm_log.proofs.ForCallers.{Begins-itself, Begins-trans}
 
 pub loop-share-init : goal.loop-share-init
 loop-share-init c = record {
-  longer = begins_self c.args.names.now;
+  longer = Begins-itself c.args.names.now;
   below = rw c.new-out.ensures.items (All-nil (λ (w : NumberedWrite). w.number < length c.args.names.now));
   listed = λ b s. let none : 0 * s.size ≡ 0 = omega arith in rw (c.new-out.ensures.items, none) refl;
 }
@@ -52,10 +50,11 @@ loop-share-preserved c =
     let fresh = c.share-item.result.fresh.items in
     let ws = c.share-item.result.writes.items in
     record {
-      longer = begins_twice c.args.names.now c.loop-share.names c.append_share.new.names was.longer c.append_share.ensures.longer;
+      longer = Begins-trans c.args.names.now c.loop-share.names c.append_share.new.names was.longer c.append_share.ensures.longer;
       below = c.in_ok-append_share.ensures.below;
       listed = λ b s.
-          let next : i * s.size + s.size ≡ (i + 1) * s.size = sym (suc-mul i s.size) ∙ (let one : suc i ≡ i + 1 = omega arith in ap (λ (n : ℕ). n * s.size) one) in
+          let next : i * s.size + s.size ≡ (i + 1) * s.size = sym (suc-mul i s.size)
+          ∙ (let one : suc i ≡ i + 1 = omega arith in ap (λ (n : ℕ). n * s.size) one) in
           let own = ap (λ (ns : List (List ℕ)). map (named_write (names_with ns fresh)) ws) (front here) ∙ (share here b s).listed in
           c.in_ok-append_share.ensures.listed
           ∙ (λ j. was.listed b s j ++ own j)

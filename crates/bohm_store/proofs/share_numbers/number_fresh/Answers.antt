@@ -1,13 +1,10 @@
-use Rattle.std.proofs.Common.{◌≡◌, ◌∙◌, List, [], ℕ, Some, map, take, ap, subst, arith, length}
-use Rattle.std.specs.Prelude.{slice_get}
-use Rattle.std.proofs.lemmas.List.{get_or_read, take_more}
+use Rattle.std.proofs.Common.{List, ℕ, map, take}
 use Rattle.bohm_store.specs.declared.listed_writes.FreshKey.{FreshKey}
-use Rattle.bohm_store.specs.Writes.{AreNumbersOf}
 use Rattle.bohm_store.proofs.Advanced.{numbers_longer, numbers_next}
 use Rattle.bohm_store.proofs.Names.{placed_at}
-use Rattle.bohm_store.proofs.NumberedWrites.{begins_twice}
 use Rattle.bohm_store.proofs.Shares.{fresh_more}
 use Rattle.bohm_store.proofs.share_numbers.number_fresh.Goals as goal
+use Rattle.bohm_log.proofs.ForCallers.{Begins-trans}
 
 pub loop-one-preserved : goal.loop-one-preserved
 loop-one-preserved c =
@@ -20,6 +17,7 @@ loop-one-preserved c =
     let (inside, is) = placed_at names one.key n c.in-Ok.ensures.named in
     let more = fresh_more c.args.fresh.now at.one-index one c.loop-one-test.true c.one-item.is in
     rw (c.in_ok-push-in-Ok.ensures.items, more) (record {
-      longer = begins_twice c.args.names.now at.names names was.longer c.id.ensures.kept;
-      numbers = numbers_next names at.numbers.items keys n one.key inside is (numbers_longer at.names names at.numbers.items keys c.id.ensures.kept was.numbers);
+      longer = Begins-trans c.args.names.now at.names names was.longer c.id.ensures.kept;
+      numbers = numbers_next names at.numbers.items keys n one.key inside is
+          (numbers_longer at.names names at.numbers.items keys c.id.ensures.kept was.numbers);
     })

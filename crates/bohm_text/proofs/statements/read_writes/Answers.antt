@@ -1,8 +1,9 @@
 use Rattle.std.proofs.Common.{◌≡◌, ap, sym, ◌∙◌}
 use Rattle.bohm_log.specs.Drafting.{Drafted, with_write}
 use Rattle.bohm_text.specs.Taking.{with_writes}
-use Rattle.bohm_text.proofs.KeyLoops.{keys_more, keys_bad, keys_end, named_key, writes_step, writes_stay}
+use Rattle.bohm_text.proofs.KeyLoops.{keys_more, keys_bad, keys_end, writes_step, writes_stay}
 use Rattle.bohm_text.proofs.statements.read_writes.Goals as goal
+use Rattle.bohm_text.proofs.Again.{key_again}
 
 pub words-preserved : goal.words-preserved
 words-preserved c =
@@ -13,7 +14,7 @@ words-preserved c =
           { body = c.words.invariant.bare.body; done = c.words.invariant.bare.done; latest = c.words.invariant.bare.latest });
       so_far = rw now (keys_more with_write with_writes writes_step writes_stay c.args.draft.now c.words.draft c.args.words.now
           c.words.words c.words.invariant.so_far c.next_packed.new.self c.in-Some.word c.in-Some.word c.in-Some.ensures
-          (named_key c.in-Some.word (c.in_ok-write_again.ensures.name done)));
+          (key_again c.in-Some.word (c.in_ok-write_again.ensures.name done)));
     }
 
 pub words-preserved-in_ok-write : goal.words-preserved-in_ok-write

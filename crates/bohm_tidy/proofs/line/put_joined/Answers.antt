@@ -1,6 +1,7 @@
 use Rattle.std.proofs.Common.{length}
-use Rattle.bohm_tidy.proofs.ByWords.{joined_end, joined_more, joined_skip, none_left, some_left}
+use Rattle.bohm_tidy.proofs.ByWords.{joined_end, joined_more, joined_skip, none_left}
 use Rattle.bohm_tidy.proofs.line.put_joined.Goals as goal
+use Rattle.bohm_text.proofs.ForCallers.{some_left}
 
 pub each-preserved-then-is_empty : goal.each-preserved-then-is_empty
 each-preserved-then-is_empty c = joined_skip c.args.signs c.each.gap c.in-Some.word.now c.next.new.self c.each.words c.each.out.items _ c.in-Some.ensures

@@ -2,8 +2,8 @@ use Rattle.std.proofs.Common.{◌≡◌, true, false, sym, ◌∙◌, ap}
 use Rattle.std.specs.List.{slice_get}
 use Rattle.std.proofs.Common.{Some}
 use Rattle.bohm_txn.specs.Sure.{is_target}
-use Rattle.bohm_txn.proofs.Lists.{drop_at}
 use Rattle.bohm_txn.proofs.sureness.are_targets.Goals as goal
+use Rattle.bohm_log.proofs.ForCallers.{drop_at}
 
 pub returns-then-not-is_target : goal.returns-then-not-is_target
 returns-then-not-is_target c =

@@ -4,8 +4,8 @@ use Rattle.std.specs.Str.{bytes_eq}
 use Rattle.bohm_types.specs.Parts.{target}
 use Rattle.bohm_types.specs.Keys.{some_passes}
 use Rattle.bohm_txn.proofs.Evaluating.{is_key}
-use Rattle.bohm_txn.proofs.Lists.{drop_at}
 use Rattle.bohm_txn.proofs.sureness.is_target.Goals as goal
+use Rattle.bohm_log.proofs.ForCallers.{drop_at}
 
 pub returns-then-eq : goal.returns-then-eq
 returns-then-eq c =

@@ -31,12 +31,19 @@ run_batch-requires-clause-first g c κs within =
     let first : c.in-Some.plan.first ≡ c.loop-place.progress.history.top + 1 = omega (arith, at.first, c.requires.first, h.2, h.4.top, run) in
     ap (λ (p : Planned). p.first) c.in-Some.plan-is ∙ first
 
-pub run_batch-requires-clause-right : goal.run_batch-requires-clause-right
-run_batch-requires-clause-right g c κs within =
+pub run_batch-requires-clause-batched : goal.run_batch-requires-clause-batched
+run_batch-requires-clause-batched g c κs within =
     let h = c.loop-place.invariant in
     let log = cutting_of c.args.log in
     let at : IsPlanAt log c.loop-place.place c.in-Some.plan = rw (c.requires.cutting, h.0) at c.take-note.ensures.note.plan c.in-Some.plan c.in-Some.is in
-    rw (c.batch-txns.ensures.txns, c.in-Some.plan-is) at.right
+    let batch = c.batch-txns.ensures in
+    rw c.in-Some.plan-is (record {
+      some = batch.some;
+      few = batch.few;
+      timestamps = omega (arith, at.first, batch.inside);
+      formed = batch.formed;
+      right = rw batch.txns at.right;
+    })
 
 pub drain-requires-clause-open : goal.drain-requires-clause-open
 drain-requires-clause-open g c =

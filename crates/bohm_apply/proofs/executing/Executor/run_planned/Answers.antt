@@ -39,13 +39,22 @@ run_batch-requires-clause-first g c κs within =
     let here = at.invariant.start ∙ ap (ahead log.sizes) at.invariant.place in
     omega (arith, there.1.first, here, at.invariant.applied.top, ran, c.requires.first)
 
-pub run_batch-requires-clause-right : goal.run_batch-requires-clause-right
-run_batch-requires-clause-right g c κs within =
+pub run_batch-requires-clause-batched : goal.run_batch-requires-clause-batched
+run_batch-requires-clause-batched g c κs within =
     let at = c.loop-plan in
+    let log = cutting_of c.args.log in
     let whole : at.yielded ++ c.in-Some.plan ∷ into_iter_items c.next.new.self ≡ c.args.plans.items =
     ap (λ (xs : List Planned). at.yielded ++ xs) (sym c.in-Some.ensures.steps.0) ∙ at.invariant.items in
-    let there = plan_there (cutting_of c.args.log) at.yielded c.in-Some.plan (into_iter_items c.next.new.self) c.args.plans.items whole c.requires.plans in
-    rw (c.batch-txns.ensures.txns, at.invariant.place) there.1.right
+    let there = plan_there log at.yielded c.in-Some.plan (into_iter_items c.next.new.self) c.args.plans.items whole c.requires.plans in
+    let here = ap (ahead log.sizes) at.invariant.place in
+    let batch = c.batch-txns.ensures in
+    record {
+      some = batch.some;
+      few = batch.few;
+      timestamps = omega (arith, there.1.first, here, batch.inside);
+      formed = batch.formed;
+      right = rw (batch.txns, at.invariant.place) there.1.right;
+    }
 
 pub overflow_add-place : goal.overflow_add-place
 overflow_add-place g c = omega (

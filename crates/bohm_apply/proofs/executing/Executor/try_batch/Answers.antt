@@ -30,4 +30,4 @@ returns-clause-applied g c =
     c.saturating_sub-floor.ensures ∙ (λ i. (c.top.ensures.top i + c.len-count.ensures i) - keep) in
     let done : IsSettledKept h new txns ((h.top + length txns) - keep) =
     subst (IsSettledKept h new txns) floor (subst (λ (ts : List Txn). IsSettledKept h new ts c.saturating_sub-floor.result) e.same settled) in
-    settled_on h new txns keep c.requires.some done
+    settled_on h new txns keep c.requires.batched.some done

@@ -7,7 +7,7 @@ use Rattle.bohm_store.specs.Versions.{past}
 use Rattle.bohm_apply.specs.Runs.{IsApplied}
 use Rattle.bohm_apply.proofs.Going.{at_rest, none_earlier, none_same, none_settled, stayed}
 use Rattle.bohm_apply.proofs.Ordered.{one_more}
-use Rattle.bohm_apply.proofs.Replying.{on_err}
+use Rattle.bohm_log.proofs.ForCallers.{on_err}
 use Rattle.bohm_apply.proofs.serial_executor.SerialExecutor.run.Goals as goal
 
 pub returns-in_err-cover-clause-some : goal.returns-in_err-cover-clause-some

@@ -1,10 +1,10 @@
 use Rattle.std.proofs.Common.{◌∙◌, ◌+◌, ◌∷◌, [], ℕ, subst, sym}
 use Rattle.bohm_txn.specs.declared.outcome.Reply.{Reply}
 use Rattle.bohm_txn.specs.Meaning.{body}
-use Rattle.bohm_txn.specs.Serial.{reply_of, reply_with}
+use Rattle.bohm_txn.specs.Serial.{reply_with}
 use Rattle.bohm_store.specs.Versions.{past}
 use Rattle.bohm_txn.proofs.ForCallers.{replied}
-use Rattle.bohm_apply.proofs.Replying.{on_err}
+use Rattle.bohm_log.proofs.ForCallers.{on_err}
 use Rattle.bohm_apply.proofs.serial_executor.SerialExecutor.run_next.Goals as goal
 
 pub returns-in_err-outcome-clause-unanswered : goal.returns-in_err-outcome-clause-unanswered

@@ -7,7 +7,6 @@ use Rattle.bohm_types.specs.declared.cell.Cell.TheVariants.{Absent}
 use Rattle.bohm_place.specs.declared.access.Access.{Access}
 use Rattle.bohm_place.specs.declared.access.Source.TheVariants.{Before}
 use Rattle.bohm_board.specs.declared.base.Base.{Base}
-use Rattle.bohm_board.specs.declared.base.Base.TheVariants.{Listed, Top}
 use Rattle.bohm_board.specs.Bases.{cells_of, keys_of}
 use Rattle.bohm_board.specs.Batches.{key_in}
 use Rattle.bohm_board.proofs.BasePlaces.{placed}

@@ -1,7 +1,7 @@
 use Rattle.std.proofs.Common.{[], ◌∷◌, ◌++◌, ap, ◌∙◌}
 use Rattle.bohm_log.specs.Parts.{names_at}
-use Rattle.bohm_log.proofs.ForCallers.{same_names}
-use Rattle.bohm_c.proofs.Numbered.{on_err, pushed_named, pushed_names}
+use Rattle.bohm_log.proofs.ForCallers.{same_names, on_err}
+use Rattle.bohm_c.proofs.Numbered.{pushed_named, pushed_names}
 use Rattle.bohm_c.proofs.key_names.KeyNames.push.Goals as goal
 
 pub invariant_of-self-2 : goal.invariant_of-self-2

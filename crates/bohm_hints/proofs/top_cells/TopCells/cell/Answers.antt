@@ -1,8 +1,7 @@
-use Rattle.std.proofs.Common.{◌≡◌, ◌∙◌, ap, sym, List, ℕ, Some, slice_get}
+use Rattle.std.proofs.Common.{◌≡◌, ◌∙◌, ap, sym, ℕ, Some, slice_get}
 use Rattle.std.specs.Prelude.{Option, slice_index_or}
 use Rattle.std.specs.Option.{unwrap_or, option_map}
 use Rattle.bohm_hints.specs.Top.{held_cell}
-use Rattle.bohm_hints.specs.declared.held.Held.{Held}
 use Rattle.bohm_hints.specs.declared.held.Held.TheVariants.{Never}
 use Rattle.bohm_hints.proofs.Places.{placed}
 use Rattle.bohm_hints.proofs.top_cells.TopCells.cell.Goals as goal

@@ -1,7 +1,7 @@
 use Rattle.std.proofs.Common.{◌≡◌, true, false}
 use Rattle.std.specs.Str.{bytes_eq}
-use Rattle.bohm_log.proofs.Viewing.{drop_at}
 use Rattle.bohm_log.proofs.keys.Keys.place_of.Goals as goal
+use Rattle.bohm_log.proofs.Lists.{drop_at}
 
 pub returns-then-eq-clause-place : goal.returns-then-eq-clause-place
 returns-then-eq-clause-place c =

@@ -25,7 +25,8 @@ covered c b are =
     let writes = rw (← c.self.view_is, keys_named (versions_at old) 0 names) at are.writes in
     let mid = timeline names c.cover.new.self in
     let after_it = next_same _ mid b same next in
-    (same, after_it, many, subst (λ (n : ℕ). AreWritesBehind names mid n (txns_of b) c.args.writes.now) many (batch_behind names mid b c.args.writes.now after_it writes))
+    let ws = c.args.writes.now in
+    (same, after_it, many, subst (λ (n : ℕ). AreWritesBehind names mid n (txns_of b) ws) many (batch_behind names mid b ws after_it writes))
 
 pub add_writes-requires : goal.add_writes-requires
 add_writes-requires c =

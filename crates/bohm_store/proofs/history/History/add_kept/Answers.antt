@@ -25,7 +25,8 @@ covered c b are =
     let writes = rw (← c.self.view_is, keys_named (versions_at old) 0 names) at are.writes in
     let mid = timeline names c.cover.new.self in
     let after_it = next_same _ mid b same next in
-    (same, after_it, many, subst (λ (n : ℕ). AreWritesBehind names mid n (txns_of b) c.args.writes.now) many (batch_behind names mid b c.args.writes.now after_it writes))
+    let ws = c.args.writes.now in
+    (same, after_it, many, subst (λ (n : ℕ). AreWritesBehind names mid n (txns_of b) ws) many (batch_behind names mid b ws after_it writes))
 
 pub add_above-requires : goal.add_above-requires
 add_above-requires c =
@@ -45,4 +46,6 @@ returns-clause-ok c b are =
     let names = c.self.inside.names in
     let (same, next, many, writes) = covered (goal.at.returns-clause-ok c).After-cover b are in
     let told = rw c.table.ensures.names at c.in_ok-add_above.ensures.ok in
-    rw (← c.self.view_is) (kept_same _ (timeline names c.cover.new.self) (timeline names c.add_above.new.self) (txns_of b) c.args.floor same (told (txns_of b) writes))
+    let mid = timeline names c.cover.new.self in
+    let now = timeline names c.add_above.new.self in
+    rw (← c.self.view_is) (kept_same _ mid now (txns_of b) c.args.floor same (told (txns_of b) writes))

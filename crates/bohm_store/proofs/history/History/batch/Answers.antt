@@ -7,10 +7,10 @@ use Rattle.bohm_types.specs.KeySets.{key_set}
 use Rattle.bohm_types.specs.Txn.{Txn}
 use Rattle.bohm_log.proofs.ForCallers.{among_key_set}
 use Rattle.bohm_txn.specs.Meaning.{Look}
-use Rattle.bohm_txn.proofs.ForCallers.{key_set_rises}
+use Rattle.bohm_txn.proofs.ForCallers.{key_set_rises, rising_distinct}
 use Rattle.bohm_place.specs.Noting.{AreKeysOf, declares_key}
 use Rattle.bohm_board.specs.Bases.{declared_keys, keys_of, listed_cells}
-use Rattle.bohm_board.proofs.ForCallers.{declared_any, rising_distinct}
+use Rattle.bohm_board.proofs.ForCallers.{declared_any}
 use Rattle.bohm_store.specs.Versions.{past}
 use Rattle.bohm_store.proofs.Bases.{keys_paired, newest_paired}
 use Rattle.bohm_store.proofs.history.History.batch.Goals.{In_ok-base}

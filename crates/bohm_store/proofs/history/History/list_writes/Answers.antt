@@ -12,4 +12,5 @@ pub returns : goal.returns
 returns c =
     let now : c.self.inside.names ≡ keys_of c.args.self.now.chains =
     sym (keys_named (versions_at c.self.inside.numbered) 0 c.self.inside.names) ∙ ap (λ (t : Timeline). keys_of t.chains) c.self.view_is in
-    subst (λ (names : List (List ℕ)). IfOk c.list.result (AreListedFrom names (batch_of_finished c.args.finished.now) c.args.from c.args.count)) now c.list.ensures
+    let b = batch_of_finished c.args.finished.now in
+    subst (λ (names : List (List ℕ)). IfOk c.list.result (AreListedFrom names b c.args.from c.args.count)) now c.list.ensures

@@ -23,7 +23,8 @@ returns-clause-writes c =
     let by = versions_at c.self.inside.numbered in
     let now : c.self.inside.names ≡ keys_of c.args.self.now.chains =
     sym (keys_named by 0 c.self.inside.names) ∙ ap (λ (t : Timeline). keys_of t.chains) c.self.view_is in
-    let new : c.gather_shares.new.names ≡ keys_of (timeline c.gather_shares.new.names c.self.inside.numbered).chains = sym (keys_named by 0 c.gather_shares.new.names) in
+    let new : c.gather_shares.new.names ≡ keys_of (timeline c.gather_shares.new.names c.self.inside.numbered).chains =
+    sym (keys_named by 0 c.gather_shares.new.names) in
     subst (λ (names : List (List ℕ)). IfOk c.gather_shares.result
     (λ v. (b : Batch) → AreShares (keys_of c.args.self.now.chains) b c.args.shares.now → AreWritesOf names b v.items)) new
     (subst (λ (names : List (List ℕ)). IfOk c.gather_shares.result

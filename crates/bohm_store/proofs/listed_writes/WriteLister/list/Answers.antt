@@ -1,4 +1,4 @@
-use Rattle.std.proofs.Common.{◌≡◌, ◌+◌, ◌-◌, ◌<◌, ◌++◌, ◌∙◌, ℕ, List, Some, map, take, drop, ap, sym, arith, subst, length}
+use Rattle.std.proofs.Common.{◌≡◌, ◌+◌, ◌-◌, ◌++◌, ◌∙◌, ℕ, List, Some, take, drop, ap, sym, arith, subst, length}
 use Rattle.std.specs.Prelude.{min}
 use Rattle.std.specs.List.{slice_get}
 use Rattle.std.proofs.lemmas.List.{length-drop, take_min}
@@ -9,11 +9,11 @@ use Rattle.bohm_txn.proofs.ForCallers.{usable}
 use Rattle.bohm_board.specs.declared.batch.Batch.{Batch}
 use Rattle.bohm_board.specs.Batches.{base_of, first_of, txn_at, txns_of}
 use Rattle.bohm_exec.specs.Answers.{batch_of_finished}
-use Rattle.bohm_store.specs.Versions.{KeyedVersion}
-use Rattle.bohm_store.specs.Writes.{all_txn_writes, named_write, names_with, txn_writes}
-use Rattle.bohm_store.proofs.Shares.{behind_at, state_behind, written_next}
+use Rattle.bohm_store.specs.Writes.{all_txn_writes, txn_writes}
+use Rattle.bohm_store.proofs.Shares.{state_behind, written_next}
 use Rattle.bohm_store.proofs.WrittenVersions.{all_at}
 use Rattle.bohm_store.proofs.listed_writes.WriteLister.list.Goals as goal
+use Rattle.bohm_place.proofs.ForCallers.{get_drop}
 
 pub list_txn-requires-clause-keys : goal.list_txn-requires-clause-keys
 list_txn-requires-clause-keys c =
@@ -37,7 +37,7 @@ loop-index-preserved c =
     let look : Look = state (base_of b) txns from in
     let there : txn_at b t ≡ Some txn = subst (λ (x : Batch). txn_at x t ≡ Some txn) c.batch.ensures c.txn-txn.ensures in
     let place : t - first_of b ≡ from + i = omega (arith, c.first-first.ensures) in
-    let here : slice_get rest i ≡ Some txn = behind_at txns from i ∙ subst (λ (n : ℕ). slice_get txns n ≡ Some txn) place there in
+    let here : slice_get rest i ≡ Some txn = get_drop from i txns ∙ subst (λ (n : ℕ). slice_get txns n ≡ Some txn) place there in
     let number : t ≡ u + i = omega (arith, c.first-first.ensures) in
     let moment : (t - first_of b) + 1 ≡ from + (i + 1) = omega (arith, place) in
     let made : txn_writes t (state (base_of b) txns ((t - first_of b) + 1)) c.writes.result ≡ txn_writes (u + i) (state look rest (i + 1)) txn.writes =

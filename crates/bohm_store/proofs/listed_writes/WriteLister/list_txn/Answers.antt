@@ -9,15 +9,16 @@ use Rattle.bohm_store.specs.Versions.{KeyedVersion}
 use Rattle.bohm_store.specs.declared.numbered_write.NumberedWrite.{NumberedWrite}
 use Rattle.bohm_store.specs.Writes.{named_write, names_with, txn_writes}
 use Rattle.bohm_store.proofs.Names.{placed_at}
-use Rattle.bohm_store.proofs.NumberedWrites.{begins_self, begins_twice, below_longer, longer_writes}
+use Rattle.bohm_store.proofs.NumberedWrites.{below_longer, longer_writes}
 use Rattle.bohm_store.proofs.WrittenVersions.{written_push}
 use Rattle.bohm_store.proofs.listed_writes.WriteLister.list_txn.Goals as goal
+use Rattle.bohm_log.proofs.ForCallers.{Begins-itself, Begins-trans}
 
 pub loop-i-init : goal.loop-i-init
 loop-i-init c =
     let names = names_with c.args.self.now.names.now c.args.listed.now.fresh.items in
     record {
-      longer = begins_self names;
+      longer = Begins-itself names;
       below = c.requires.below;
       listed = sym (append-nil (map (named_write names) c.args.listed.now.writes.items));
     }
@@ -42,7 +43,7 @@ loop-i-preserved c =
     let (inside, is) = placed_at names' k number c.in_ok-number.ensures.named in
     let before = map (named_write start) c.args.listed.now.writes.items in
     record {
-      longer = begins_twice start names names' was.longer longer;
+      longer = Begins-trans start names names' was.longer longer;
       below =
           rw c.in_ok-push.ensures.items (All-push (λ (y : NumberedWrite). y.number < length names') out w
           (below_longer names names' out longer was.below) inside);

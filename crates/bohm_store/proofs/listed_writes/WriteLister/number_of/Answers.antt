@@ -2,19 +2,20 @@ use Rattle.std.proofs.Common.{◌≡◌, ◌∙◌, ◌+◌, ◌++◌, ◌∷◌
 use Rattle.bohm_log.proofs.ForCallers.{at_its_number}
 use Rattle.bohm_store.specs.declared.listed_writes.FreshKey.{FreshKey}
 use Rattle.bohm_store.specs.Writes.{names_with}
-use Rattle.bohm_store.proofs.Shares.{front_there, last_there, names_long, names_push}
+use Rattle.bohm_store.proofs.Shares.{last_there, names_long, names_push}
 use Rattle.bohm_store.proofs.listed_writes.WriteLister.number_of.Goals as goal
+use Rattle.bohm_board.proofs.ForCallers.{get_left}
 
 pub returns-then-is_numbered-clause-named : goal.returns-then-is_numbered-clause-named
 returns-then-is_numbered-clause-named c =
     let names = c.args.self.now.names.now in
     let there : slice_get names c.index-hint.result ≡ Some c.args.key.now = rw c.table.ensures.names at (c.is_numbered.ensures c.if-is_numbered.true) in
-    front_there names _ c.args.key.now c.index-hint.result there
+    get_left names _ c.index-hint.result c.args.key.now there
 
 pub returns-in-Some-clause-named : goal.returns-in-Some-clause-named
 returns-in-Some-clause-named c =
     let names = c.args.self.now.names.now in
-    front_there names _ c.args.key.now c.in-Some.number
+    get_left names _ c.in-Some.number c.args.key.now
     (at_its_number names c.args.key.now c.in-Some.number (sym c.in-Some.is ∙ c.find.ensures))
 
 pub returns-clause-longer : goal.returns-clause-longer

@@ -11,4 +11,5 @@ returns-clause-cells c n =
     let os = c.self.inside.older.items in
     let items = c.self.inside.newest.items in
     rw (← c.self.view_is) (ap (λ (xs : List Held). held_cell (get_or xs n Never)) c.deref.ensures.value
-    ∙ sym (cell_held c.self.inside.top (older_of os n) (get_or items n Never) (ends_of os n) (c.self.invariant.linked n) (as_many os n) (c.self.invariant.low n)))
+    ∙ sym (cell_held c.self.inside.top (older_of os n) (get_or items n Never) (ends_of os n) (c.self.invariant.linked n) (as_many os n)
+    (c.self.invariant.low n)))

@@ -2,8 +2,9 @@ use Rattle.std.proofs.Common.{◌≡◌, ◌++◌, Bool, List, ℕ, ap, length, 
 use Rattle.std.specs.Prelude.{◌==◌}
 use Rattle.bohm_tidy.specs.Line.{exact_line}
 use Rattle.bohm_tidy.specs.Plain.{Written, added, signs_at, with_line, written_of}
-use Rattle.bohm_tidy.proofs.ByWords.{added_none, added_some, none_left, some_left}
+use Rattle.bohm_tidy.proofs.ByWords.{added_none, added_some, none_left}
 use Rattle.bohm_tidy.proofs.plain.Plain.feed.Goals as goal
+use Rattle.bohm_text.proofs.ForCallers.{some_left}
 
 pub returns-then-is_empty : goal.returns-then-is_empty
 returns-then-is_empty c =

@@ -4,8 +4,8 @@ use Rattle.std.proofs.lemmas.Option.{slice_get-get_or}
 use Rattle.bohm_log.specs.declared.row.AtomKind.TheVariants.{Small}
 use Rattle.bohm_log.specs.declared.row.TermRow.{TermRow}
 use Rattle.bohm_log.specs.Parts.{term_of}
+use Rattle.bohm_log.proofs.ForCallers.{drop_at}
 use Rattle.bohm_txn.specs.Seeing.{look_of}
-use Rattle.bohm_txn.proofs.Lists.{drop_at}
 use Rattle.bohm_txn.proofs.Totals.{total_step}
 use Rattle.bohm_txn.proofs.environment.Environment.total.Goals as goal
 use mir.Syntax.{w128}

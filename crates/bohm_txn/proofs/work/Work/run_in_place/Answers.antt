@@ -6,12 +6,12 @@ use Rattle.std.proofs.lemmas.Option.{slice_get-get_or}
 use Rattle.bohm_log.specs.declared.row.Action.TheVariants.{Bind}
 use Rattle.bohm_log.specs.declared.row.StmtRow.{StmtRow}
 use Rattle.bohm_log.specs.Parts.{Parts, stmt_of, txn_of}
+use Rattle.bohm_log.proofs.ForCallers.{drop_at}
 use Rattle.bohm_types.specs.Accesses.{StmtWrites}
 use Rattle.bohm_txn.specs.Declares.{AllShort, shows_in}
 use Rattle.bohm_txn.specs.Room.{tables_of}
 use Rattle.bohm_txn.specs.Tables.{step}
 use Rattle.bohm_txn.proofs.Bodies.{shows_first, step_shows}
-use Rattle.bohm_txn.proofs.Lists.{drop_at}
 use Rattle.bohm_txn.proofs.Evaluating.{each_at}
 use Rattle.bohm_txn.proofs.UseLaws.{rising_reads, rising_writes, usable}
 use Rattle.bohm_txn.proofs.work.Work.run_in_place.Goals as goal
