@@ -103,7 +103,7 @@ class Digests:
         own = self.own.get(place)
         for digest, count in votes.items():
             if own and digest != own and 2 * count > len(names):
-                self.fault = (f"{self.name} has the digest {own} behind entry {place}, where {count} of {len(names)} "
+                self.fault = (f"{self.name} has the digest {own} after entry {place}, where {count} of {len(names)} "
                               f"replicas have {digest}")
 
     def check(self) -> None:

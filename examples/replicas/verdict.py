@@ -71,7 +71,7 @@ def check_digests(scene: Scene, program: Path, found: Outcome) -> None:
         wanted = serial.digest_at(found.serial, place, program)
         if digests != {wanted}:
             found.differing += 1
-            found.faults.append(f"digests behind entry {place}: {sorted(digests)}, the serial run's is {wanted}")
+            found.faults.append(f"digests after entry {place}: {sorted(digests)}, the serial run's is {wanted}")
 
 
 def check_replica(replica: ReplicaChild, found: Outcome) -> None:
@@ -81,7 +81,7 @@ def check_replica(replica: ReplicaChild, found: Outcome) -> None:
         found.faults.append(f"{replica.name}: other replies than the serial run's")
     kept = snapshot.parse((replica.folder / "snapshot").read_bytes())
     if (kept.entries, kept.top) != (len(found.serial.lines), found.serial.tops[-1]):
-        found.faults.append(f"{replica.name} is behind entry {kept.entries}, timestamp {kept.top}, not "
+        found.faults.append(f"{replica.name} is after entry {kept.entries}, timestamp {kept.top}, not "
                             f"{len(found.serial.lines)}, {found.serial.tops[-1]}")
     if kept.store != serial.HEAD + found.serial.store:
         found.faults.append(f"{replica.name}: another store than the serial run's")
