@@ -7,6 +7,7 @@ from __future__ import annotations
 
 import collections
 import queue
+import re
 import threading
 from collections.abc import Iterator
 
@@ -14,6 +15,10 @@ from etcd import Change, Etcd, Refused, Unreachable
 
 # Entries from place to place, and how many places are kept.
 EVERY, KEPT = 1000, 100
+# A replica's name, and what follows the prefix in the key of a digest. Other keys there are somebody else's.
+NAME = re.compile(r"[A-Za-z0-9_.-]{1,64}")
+PLACE_AND_NAME = re.compile(rb"(\d{12})/([A-Za-z0-9_.-]{1,64})")
+SHA256 = re.compile(rb"[0-9a-f]{64}")
 
 
 class Diverged(Exception):
@@ -30,14 +35,27 @@ def folder_of(prefix: bytes, place: int) -> bytes:
     return b"digests/%s%012d/" % (prefix, place)
 
 
+def registered(log: Etcd, prefix: bytes) -> dict[str, str]:
+    """The addresses of a log's replicas, by their names. Keys that are no names, and values that are no text, are left
+    out."""
+    start, found = names_of(prefix), {}
+    for key, address in sorted(log.held(start).items()):
+        try:
+            name, text = key[len(start):].decode(), address.decode()
+        except UnicodeDecodeError:
+            continue
+        if NAME.fullmatch(name):
+            found[name] = text
+    return found
+
+
 class Digests:
     """A replica's own digests, and those of others that differ from them."""
 
-    def __init__(self, log: Etcd, prefix: bytes, name: str, address: str, entries: int) -> None:
-        """Publishes the name, and continues after `entries` entries with what was published under it. `log` is used by
-        one thread of this object."""
+    def __init__(self, log: Etcd, prefix: bytes, name: str, entries: int) -> None:
+        """Continues after `entries` entries with what was published under the name. `log` is used by one thread of this
+        object."""
         self.log, self.prefix, self.name = log, prefix, name
-        log.overwrite(names_of(prefix) + name.encode(), address.encode())
         self.own = {place: digest for place, whose, digest in self.published() if whose == name and place <= entries}
         self.told: dict[int, dict[str, str]] = collections.defaultdict(dict)
         self.differing: set[int] = set()
@@ -48,8 +66,16 @@ class Digests:
     def published(self) -> Iterator[tuple[int, str, str]]:
         """Each place with the replica and its digest, by rising places."""
         for key, digest in sorted(self.log.held(b"digests/" + self.prefix).items()):
-            place, _, whose = key.removeprefix(b"digests/" + self.prefix).partition(b"/")
-            yield int(place), whose.decode(), digest.decode()
+            if found := self.read(key, digest):
+                yield found
+
+    def read(self, key: bytes, digest: bytes | None) -> tuple[int, str, str] | None:
+        """The place, the replica and its digest that a key of etcd and its value have, if they have any."""
+        start = b"digests/" + self.prefix
+        place = PLACE_AND_NAME.fullmatch(key[len(start):]) if key.startswith(start) else None
+        if not place or not SHA256.fullmatch(digest or b""):
+            return None
+        return int(place[1]), place[2].decode(), (digest or b"").decode()
 
     def last(self) -> tuple[int, str | None]:
         """The last place, and the digest there."""
@@ -57,12 +83,11 @@ class Digests:
 
     def note(self, change: Change) -> None:
         """Notes another replica's digest from a change of a key, if it has one."""
-        start = b"digests/" + self.prefix
-        if not change.value or not change.key.startswith(start):
-            return
-        place, _, name = change.key[len(start):].partition(b"/")
-        self.told[int(place)][name.decode()] = change.value.decode()
-        self.compare(int(place))
+        found = self.read(change.key, change.value)
+        if found and abs(found[0] - self.last()[0]) <= KEPT * EVERY:
+            place, name, digest = found
+            self.told[place][name] = digest
+            self.compare(place)
 
     def add(self, place: int, digest: str) -> None:
         """Adds this replica's digest of the next place, and drops the oldest one."""
@@ -96,10 +121,9 @@ class Digests:
 
     def judge(self, place: int) -> None:
         """Records that this replica has diverged, if more than half of the named replicas have another digest."""
-        names = {name.removeprefix(names_of(self.prefix)) for name in self.log.held(names_of(self.prefix))}
-        told = self.log.held(folder_of(self.prefix, place))
-        votes = collections.Counter(value.decode() for key, value in told.items()
-                                    if key.removeprefix(folder_of(self.prefix, place)) in names)
+        names = set(registered(self.log, self.prefix))
+        told = filter(None, (self.read(*held) for held in self.log.held(folder_of(self.prefix, place)).items()))
+        votes = collections.Counter(digest for _, name, digest in told if name in names)
         own = self.own.get(place)
         for digest, count in votes.items():
             if own and digest != own and 2 * count > len(names):

@@ -2,6 +2,7 @@
 from __future__ import annotations
 
 import base64
+import hashlib
 import http.client
 import itertools
 import json
@@ -36,6 +37,10 @@ class Compacted(Exception):
     """The log no longer contains the requested revision."""
 
 
+class Rewound(Exception):
+    """etcd no longer has what was read from it: it was restored from a backup, or it is another log."""
+
+
 class Unavailable(Exception):
     """This member can't answer now; another one, or a later attempt, may."""
 
@@ -54,6 +59,22 @@ class Change:
     key: bytes
     value: bytes | None
     makes: bool
+
+
+@dataclass(frozen=True)
+class Mark:
+    """A put that was read from a log, by which the log is known again."""
+    revision: int
+    key: bytes
+    sha256: str
+
+
+def last_put(changes: list[Change], before: Mark | None) -> Mark | None:
+    """The last put of these changes, or the one before them."""
+    for change in reversed(changes):
+        if change.value is not None:
+            return Mark(change.revision, change.key, hashlib.sha256(change.value).hexdigest())
+    return before
 
 
 def pause() -> None:
@@ -94,6 +115,7 @@ class Etcd:
         self.patience = patience
         self.member = next(self.members)
         self.line: http.client.HTTPConnection | None = None
+        self.number: str | None = None
 
     def turn(self) -> None:
         """Switches to the next member."""
@@ -123,6 +145,7 @@ class Etcd:
         while True:
             try:
                 said = json.loads(self.post(path, words, Etcd.answer).read())
+                self.same_cluster(said.get("header", {}))
                 Etcd.answer = max(ANSWER, 0.9 * Etcd.answer)
                 return said
             except FAULTS as fault:
@@ -135,9 +158,35 @@ class Etcd:
                     raise Unreachable(str(fault)) from fault
                 pause()
 
+    def same_cluster(self, header: dict[str, Any]) -> None:
+        """Notes the number of the cluster that answers first. A member of another cluster counts as one that doesn't
+        answer. Some answers have no header."""
+        number = header.get("cluster_id", self.number)
+        self.number = self.number or number
+        if self.number != number:
+            raise Unavailable(f"{self.member} is a member of another cluster")
+
     def cluster(self) -> str:
-        """The cluster's number, which distinguishes its revisions from another cluster's."""
+        """The cluster's number, which distinguishes its revisions from another cluster's, unless that one was restored from
+        a backup of it."""
         return str(self.ask("/v3/maintenance/status", {})["header"]["cluster_id"])
+
+    def confirm(self, revision: int, mark: Mark | None, patience: float | None = None) -> int:
+        """etcd's revision, if it isn't below one that was read from it, and if etcd still has the put there, or is compacted
+        beyond it. Raises Rewound, or Unreachable."""
+        if (now := self.revision(patience)) < revision:
+            raise Rewound(f"etcd's revision is {now}, and {revision} was read from it")
+        if mark:
+            try:
+                found = self.ask("/v3/kv/range", {"key": coded(mark.key), "revision": str(mark.revision)}, patience)
+            except Unavailable:
+                return now
+            puts = [Mark(int(kv["mod_revision"]), mark.key,
+                         hashlib.sha256(base64.b64decode(kv.get("value", ""))).hexdigest())
+                    for kv in found.get("kvs", [])]
+            if puts != [mark]:
+                raise Rewound(f"etcd's revision {mark.revision} isn't the one that was read from it")
+        return now
 
     def revision(self, patience: float | None = None) -> int:
         """The revision of the last change that was acknowledged before this call, or a later revision."""
@@ -180,6 +229,15 @@ class Etcd:
         except Unavailable:
             """It is already compacted up to there, or further."""
 
+    def defragment(self) -> None:
+        """Gives the space of what was compacted back to a member's disk."""
+        self.ask("/v3/maintenance/defragment", {})
+
+    def disarm(self) -> None:
+        """Lets puts in again after the space was used up."""
+        for alarm in self.ask("/v3/maintenance/alarm", {"action": "GET"}).get("alarms", []):
+            self.ask("/v3/maintenance/alarm", {"action": "DEACTIVATE", **alarm})
+
     def watch(self, first: int, patience: float) -> Iterator[list[Change]]:
         """All changes from revision `first` on, as one member sends them: each list has whole revisions. Ends with one of
         FAULTS if the member is gone, or silent for too long: `patience` seconds before the first answer. Large answers
@@ -190,6 +248,7 @@ class Etcd:
             told = json.loads(line)
             if "result" not in told:
                 raise Unavailable(line.decode())
+            self.same_cluster(told["result"]["header"])
             if told["result"].get("canceled"):
                 if "compact_revision" in told["result"]:
                     raise Compacted(f"the log is compacted up to revision {told['result']['compact_revision']}")
@@ -203,33 +262,32 @@ class Etcd:
         if self.line and self.line.sock:
             self.line.sock.settimeout(seconds)
 
-    def follow(self, first: int) -> Iterator[list[Change]]:
+    def follow(self, first: int, mark: Mark | None) -> Iterator[list[Change]]:
         """All changes from revision `first` on, without end, a revision at a time, sorted by key: by rising revisions, each
-        once; if a member fails, another one continues."""
+        once; if a member fails, another one continues. `mark` is the last put before `first`. Raises Rewound if etcd no
+        longer has what was read from it."""
         tries = 0
         while True:
-            begin, missing = first, self.missing(first)
-            self.close()
+            begin, missing = first, 1
             try:
+                missing = self.confirm(first - 1, mark, patience=0.0) - first + 1
+                self.close()
                 for changes in self.watch(first, silence(missing, tries)):
                     changes.sort(key=lambda change: (change.revision, change.key))
                     for revision, group in itertools.groupby(changes, lambda change: change.revision):
                         # A member that lags may send revisions from before the requested one.
                         if revision >= first:
-                            first = revision + 1
-                            yield list(group)
+                            found = list(group)
+                            first, mark = revision + 1, last_put(found, mark)
+                            yield found
+            except Unreachable:
+                pause()
+                continue
             except FAULTS:
                 pass
             tries = tries + 1 if missing and first == begin else 0
             self.turn()
             pause()
-
-    def missing(self, first: int) -> int:
-        """How many revisions there are from `first` on; 1 if no member answers at once."""
-        try:
-            return max(0, self.revision(patience=0.0) - first + 1)
-        except Unreachable:
-            return 1
 
 
 def silence(revisions: int, tries: int = 0) -> float:

@@ -5,7 +5,7 @@ import queue
 import threading
 import time
 
-from etcd import Change, Etcd
+from etcd import Change, Etcd, Mark
 
 # Bytes, and whole revisions, at which a segment, and the queue for the next one, stop. A revision is one etcd request,
 # 1.5 MiB at most, so a segment stays below the 64 MiB of a log.
@@ -15,15 +15,15 @@ TICK = 0.1
 
 
 class Inbox:
-    """The changes from a revision on, until they are taken: whole revisions, in order."""
+    """The changes from a revision on, until they are taken: whole revisions, in order. `mark` is the last put before."""
 
-    def __init__(self, log: Etcd, first: int) -> None:
+    def __init__(self, log: Etcd, first: int, mark: Mark | None) -> None:
         self.waiting: queue.Queue[list[Change] | Exception] = queue.Queue(WAITING)
-        threading.Thread(target=self.read, args=(log, first), daemon=True).start()
+        threading.Thread(target=self.read, args=(log, first, mark), daemon=True).start()
 
-    def read(self, log: Etcd, first: int) -> None:
+    def read(self, log: Etcd, first: int, mark: Mark | None) -> None:
         try:
-            for changes in log.follow(first):
+            for changes in log.follow(first, mark):
                 self.waiting.put(changes)
         except Exception as fault:
             self.waiting.put(fault)

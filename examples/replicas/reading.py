@@ -5,7 +5,7 @@ import threading
 from collections.abc import Callable
 from typing import TYPE_CHECKING, Any
 
-from etcd import Etcd, Refused, Unreachable
+from etcd import Etcd, Refused, Rewound, Unreachable
 from figures import headed, memory, one
 from ledger import HERE, TrimmedError
 
@@ -59,11 +59,15 @@ class Reader:
             return self.replica.top
 
     def current(self) -> int:
-        """etcd's revision; each thread has its own connection."""
+        """etcd's revision; each thread has its own connection. A revision below the applied one is another log's."""
+        with self.replica.changed:
+            applied = self.replica.revision
         if not hasattr(self.logs, "log"):
             self.logs.log = Etcd(self.replica.options.members, patience=WAIT)
         try:
-            return self.logs.log.revision()
+            return self.logs.log.confirm(applied, None)
+        except Rewound as fault:
+            raise NotYet(str(fault)) from fault
         except (Unreachable, Refused) as fault:
             raise NotYet(f"etcd doesn't tell its revision: {fault}") from fault
 

@@ -32,7 +32,7 @@ class Witness(threading.Thread):
         self.revision = 0
 
     def run(self) -> None:
-        for changes in self.log.follow(1):
+        for changes in self.log.follow(1, None):
             self.changes += changes
             self.revision = changes[-1].revision
 

@@ -1,8 +1,14 @@
-"""A replica's HTTP server."""
+"""A replica's HTTP server. What a stranger may take of it is bounded: connections, the time of a request, and how many
+answers of a whole store are made at once."""
 from __future__ import annotations
 
+import io
 import json
+import re
+import resource
+import socket
 import threading
+import time
 from http.server import BaseHTTPRequestHandler, ThreadingHTTPServer
 from typing import Any
 from urllib.parse import parse_qs, unquote_to_bytes, urlsplit
@@ -12,6 +18,11 @@ from reading import Gone, NotYet, Reader
 
 PATHS = b"/value/KEY, /store (?at=T, ?fresh=1), /replies/REVISION, /status, /metrics, /digests or /snapshot\n"
 TEXT, JSON, BYTES = "text/plain; charset=utf-8", "application/json", "application/octet-stream"
+# The most connections at once; descriptors that stay for etcd and files; answers of a whole store at once.
+MOST, RESERVED, WHOLE = 512, 64, 4
+# Seconds until a request has to be read, and until its answer has to be taken.
+READ, TAKE = 10.0, 60.0
+TIMESTAMP, REVISION = re.compile("[0-9]{1,10}"), re.compile("[0-9]{1,19}")
 
 
 class BadWords(Exception):
@@ -23,11 +34,28 @@ def read_query(query: str) -> tuple[int | None, bool]:
     words = parse_qs(query, keep_blank_values=True)
     at = words.pop("at", [])
     fresh = words.pop("fresh", ["0"])[0]
-    if words or fresh not in ("0", "1") or any(not (each.isdecimal() and int(each) < 2**32) for each in at):
+    if words or fresh not in ("0", "1") or any(not (TIMESTAMP.fullmatch(each) and int(each) < 2**32) for each in at):
         raise BadWords("at=T has a timestamp, fresh is 0 or 1, and there is nothing else")
     if len(at) + (fresh == "1") > 1:
         raise BadWords("at=T and fresh=1 exclude each other")
     return int(at[0]) if at else None, fresh == "1"
+
+
+class Timed(io.RawIOBase):
+    """What a socket receives until a moment that is set for each request, however slowly the bytes come."""
+
+    def __init__(self, connection: socket.socket) -> None:
+        self.connection, self.end = connection, 0.0
+
+    def readable(self) -> bool:
+        return True
+
+    def readinto(self, room: Any) -> int:
+        left = self.end - time.monotonic()
+        if left <= 0:
+            raise TimeoutError("the request took too long")
+        self.connection.settimeout(left)
+        return self.connection.recv_into(room)
 
 
 class Handler(BaseHTTPRequestHandler):
@@ -36,10 +64,21 @@ class Handler(BaseHTTPRequestHandler):
     wbufsize = -1
     server: Server
 
+    def setup(self) -> None:
+        super().setup()
+        self.rfile.close()
+        self.timed = Timed(self.connection)
+        self.rfile = io.BufferedReader(self.timed)
+
+    def handle_one_request(self) -> None:
+        self.timed.end = time.monotonic() + READ
+        super().handle_one_request()
+
     def do_GET(self) -> None:
+        self.connection.settimeout(TAKE)
         try:
             if self.server.reader.stopped:
-                self.answer(503, b"diverged\n")
+                self.answer(503, b"stopped: this replica's log or store is wrong\n")
             else:
                 self.route(self.server.reader)
         except (BadWords, NoKeyError) as fault:
@@ -50,13 +89,17 @@ class Handler(BaseHTTPRequestHandler):
             self.answer(503, f"{fault}\n".encode())
 
     def route(self, reader: Reader) -> None:
-        url = urlsplit(self.path)
+        try:
+            url = urlsplit(self.path)
+        except ValueError as fault:
+            raise BadWords(f"the path isn't one: {fault}") from fault
         match url.path.split("/")[1:]:
             case ["value", key]:
                 self.json(reader.value(unquote_to_bytes(key), *read_query(url.query)))
             case ["store"]:
-                self.json(reader.store(*read_query(url.query)))
-            case ["replies", revision] if revision.isdecimal():
+                with self.server.whole:
+                    self.json(reader.store(*read_query(url.query)))
+            case ["replies", revision] if REVISION.fullmatch(revision):
                 lines = reader.reply(int(revision))
                 self.answer(200 if lines else 404, lines or b"no reply of this revision here\n")
             case ["status"]:
@@ -66,7 +109,8 @@ class Handler(BaseHTTPRequestHandler):
             case ["metrics"]:
                 self.answer(200, reader.metrics().encode(), "text/plain; version=0.0.4; charset=utf-8")
             case ["snapshot"]:
-                self.answer(200, reader.snapshot(), BYTES)
+                with self.server.whole:
+                    self.answer(200, reader.snapshot(), BYTES)
             case _:
                 self.answer(404, PATHS)
 
@@ -88,13 +132,35 @@ class Handler(BaseHTTPRequestHandler):
 
 
 class Server(ThreadingHTTPServer):
+    """Bound to its port from the beginning; requests are answered once there is a reader."""
     daemon_threads = True
     request_queue_size = 128
+    reader: Reader
 
-    def __init__(self, reader: Reader, host: str, port: int) -> None:
+    def __init__(self, host: str, port: int) -> None:
+        _, hard = resource.getrlimit(resource.RLIMIT_NOFILE)
+        resource.setrlimit(resource.RLIMIT_NOFILE, (hard, hard))
+        free = MOST if hard == resource.RLIM_INFINITY else max(1, hard - RESERVED)
+        self.room = threading.BoundedSemaphore(min(MOST, free))
+        self.whole = threading.BoundedSemaphore(WHOLE)
         super().__init__((host, port), Handler)
+
+    def process_request(self, request: Any, client_address: Any) -> None:
+        """Closes a connection at once where there are as many as there may be."""
+        if not self.room.acquire(blocking=False):
+            self.shutdown_request(request)
+            return
+        super().process_request(request, client_address)
+
+    def process_request_thread(self, request: Any, client_address: Any) -> None:
+        try:
+            super().process_request_thread(request, client_address)
+        finally:
+            self.room.release()
+
+    def handle_error(self, request: Any, client_address: Any) -> None:
+        """A client that went away, or took too long, isn't reported."""
+
+    def start(self, reader: Reader) -> None:
         self.reader = reader
-
-
-def start(reader: Reader, host: str, port: int) -> None:
-    threading.Thread(target=Server(reader, host, port).serve_forever, daemon=True).start()
+        threading.Thread(target=self.serve_forever, daemon=True).start()

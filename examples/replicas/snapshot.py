@@ -8,7 +8,11 @@ from dataclasses import dataclass
 from pathlib import Path
 from urllib.parse import quote_from_bytes, unquote_to_bytes
 
-HEAD = re.compile(rb"snapshot 2\ncluster (\d+)\nprefix (\S+)\nrevision (\d+)\nentries (\d+)\ntop (\d+)\n")
+from etcd import Mark
+
+# A snapshot of the form 2 has no line `last`.
+HEAD = re.compile(rb"snapshot [23]\ncluster (\d+)\nprefix (\S+)\nrevision (\d+)\nentries (\d+)\ntop (\d+)\n"
+                  rb"(?:last (\d+) (\S+) ([0-9a-f]{64})\n)?")
 PROCEDURE = re.compile(rb"procedure (\S+) (\d+)\n")
 
 
@@ -19,20 +23,23 @@ class Refused(Exception):
 @dataclass(frozen=True)
 class Snapshot:
     """The state after all changes up to a revision: how many entries the log had, the timestamp of the last transaction
-    among them, the procedures' texts by their names, and the store as text."""
+    among them, the last put that was read, the procedures' texts by their names, and the store as text."""
     cluster: str
     prefix: bytes
     revision: int
     entries: int
     top: int
+    mark: Mark | None
     procedures: dict[bytes, bytes]
     store: bytes
 
     def text(self) -> bytes:
-        head = (f"snapshot 2\ncluster {self.cluster}\nprefix {quote_from_bytes(self.prefix)}\n"
-                f"revision {self.revision}\nentries {self.entries}\ntop {self.top}\n").encode()
+        head = (f"snapshot 3\ncluster {self.cluster}\nprefix {quote_from_bytes(self.prefix)}\n"
+                f"revision {self.revision}\nentries {self.entries}\ntop {self.top}\n")
+        if self.mark:
+            head += f"last {self.mark.revision} {quote_from_bytes(self.mark.key)} {self.mark.sha256}\n"
         texts = [b"procedure %s %d\n%s" % (name, len(text), text) for name, text in sorted(self.procedures.items())]
-        body = head + b"".join(texts) + self.store
+        body = head.encode() + b"".join(texts) + self.store
         return body + hash_line(body)
 
 
@@ -72,7 +79,8 @@ def parse(text: bytes) -> Snapshot:
     while found := PROCEDURE.match(body, at):
         at = found.end() + int(found[2])
         procedures[found[1]] = body[found.end():at]
-    return Snapshot(head[1].decode(), unquote_to_bytes(head[2]), int(head[3]), int(head[4]), int(head[5]), procedures,
+    mark = Mark(int(head[6]), unquote_to_bytes(head[7]), head[8].decode()) if head[6] else None
+    return Snapshot(head[1].decode(), unquote_to_bytes(head[2]), int(head[3]), int(head[4]), int(head[5]), mark, procedures,
                     body[at:])
 
 
