@@ -9,7 +9,7 @@
 
 static const char *accounts = "log 1\nalice 100\nbob 20\ncarol 0\n";
 
-static const char *transfer_text = "procedure 1\n"
+static const char *transfer_text = "procedure 2\n"
                                    "key from\n"
                                    "key to\n"
                                    "value amount\n"
@@ -20,7 +20,7 @@ static const char *transfer_text = "procedure 1\n"
                                    "set to = to + $amount\n"
                                    "end\n";
 
-static const char *audit_text = "procedure 1\n"
+static const char *audit_text = "procedure 2\n"
                                 "reads alice bob carol\n"
                                 "writes\n"
                                 "show alice + bob + carol\n"
@@ -60,19 +60,20 @@ int main(void) {
     need_done("open", bohm_open(&machine, seed, (const uint8_t *)accounts, strlen(accounts), 0, &out));
     bohm_procedure by = prepare(seed, transfer_text), audit = prepare(seed, audit_text);
 
-    need_done("open_calls", bohm_open_calls_for(&machine, &calls, 1));
+    need_done("open_calls", bohm_open_calls_for(&machine, &calls, 2));
     uint32_t alice = look_up(&calls, "alice"), bob = look_up(&calls, "bob"), carol = look_up(&calls, "carol");
     transfer(&calls, &by, alice, bob, 30);
     transfer(&calls, &by, bob, carol, 80);
     transfer(&calls, &by, alice, carol, 70);
     transfer(&calls, &by, alice, bob, 1);
+    transfer(&calls, &by, bob, bob, 50);
     need_done("audit", bohm_push(&calls, &audit, 0, 0, 0, 0));
 
     need_done("run_calls", bohm_run_calls(&machine, &calls, &out));
     fwrite(out.at, 1, out.len, stdout);
     bohm_free_bytes(&out);
 
-    need_done("store_at", bohm_store_at(&machine, 5, &out));
+    need_done("store_at", bohm_store_at(&machine, 6, &out));
     printf("--\n");
     fwrite(out.at + strlen("log 1\n"), 1, out.len - strlen("log 1\n"), stdout);
     bohm_free_bytes(&out);

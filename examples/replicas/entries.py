@@ -7,7 +7,9 @@ from dataclasses import dataclass
 NAME = rb"[a-z][a-z0-9_]{0,31}"
 KEY = re.compile(NAME)
 CALL = re.compile(rb"call (" + NAME + rb")((?: [^ \n]+)*)\n")
-DEFINITION = re.compile(rb"define (" + NAME + rb")\n(procedure 1\n.*)", re.DOTALL)
+DEFINITION = re.compile(rb"define (" + NAME + rb")\n(procedure [12]\n.*)", re.DOTALL)
+# The line that makes a transaction one of edition 2.
+SECOND = b"log 2\n"
 NUMBER = re.compile(rb"0|-?[1-9][0-9]{0,18}")
 LEAST, GREATEST = -2**63, 2**63 - 1
 SHAPELESS = b"skipped: shape"
@@ -30,6 +32,7 @@ class Call:
 @dataclass(frozen=True)
 class Transaction:
     """Lines; only the first is `txn`, and only the last is `end`."""
+    edition: int
     text: bytes
 
 
@@ -44,8 +47,9 @@ Entry = Definition | Call | Transaction | Shapeless
 def read(value: bytes) -> Entry:
     if found := CALL.fullmatch(value):
         return Call(found[1], found[2].split())
-    if is_transaction(value):
-        return Transaction(value)
+    lines = value.removeprefix(SECOND)
+    if is_transaction(lines):
+        return Transaction(1 if lines is value else 2, lines)
     if found := DEFINITION.fullmatch(value):
         return Definition(found[1], found[2])
     return Shapeless()

@@ -17,6 +17,7 @@ from bohm import BohmError, HasLogError, Library, Machine, NoKeyError, RefusedEr
 __all__ = ["BohmError", "Ledger", "Library", "NoKeyError", "TrimmedError", "Unread"]
 
 HEAD = b"log 1\n"
+HEADS = {1: HEAD, 2: entries.SECOND}
 # The most calls that are run at once. A list takes 1,000,000.
 MOST = 65_536
 
@@ -56,8 +57,8 @@ class Ledger:
         for group in alike(map(entries.read, values)):
             if calls := [entry for entry in group if isinstance(entry, Call)]:
                 replies += self.run_calls(calls)
-            elif texts := [entry.text for entry in group if isinstance(entry, Transaction)]:
-                replies += self.run_texts(texts)
+            elif texts := [entry for entry in group if isinstance(entry, Transaction)]:
+                replies += self.run_texts(HEADS[texts[0].edition], [entry.text for entry in texts])
             elif definitions := [entry for entry in group if isinstance(entry, Definition)]:
                 replies += [self.define(definition) for definition in definitions]
             else:
@@ -93,20 +94,20 @@ class Ledger:
             return b"skipped: key"
         return bohm.Call(procedure, tuple(keys), values)
 
-    def run_texts(self, texts: list[bytes]) -> list[bytes]:
+    def run_texts(self, head: bytes, texts: list[bytes]) -> list[bytes]:
         skipped: dict[int, bytes] = {}
         try:
-            replies = self.machine.apply(HEAD + b"".join(texts))
+            replies = self.machine.apply(head + b"".join(texts))
         except RefusedError:
-            skipped = {at: why for at, text in enumerate(texts) if (why := self.fault(text))}
+            skipped = {at: why for at, text in enumerate(texts) if (why := self.fault(head + text))}
             good = b"".join(text for at, text in enumerate(texts) if at not in skipped)
-            replies = self.machine.apply(HEAD + good)
+            replies = self.machine.apply(head + good)
         return merged(skipped, (str(reply).encode() for reply in replies), len(texts))
 
-    def fault(self, text: bytes) -> bytes | None:
+    def fault(self, log: bytes) -> bytes | None:
         """Why a text is skipped: the line by which a log with that text alone is refused."""
         try:
-            bohm.answer(HEAD + text, library=self.library)
+            bohm.answer(log, library=self.library)
         except RefusedError as refusal:
             return skipped_by(refusal)
         return None
@@ -117,7 +118,7 @@ class Ledger:
 
 
 def alike(given: Iterable[Entry]) -> Iterator[list[Entry]]:
-    """Groups of neighbours of the same kind."""
-    for _, group in itertools.groupby(given, type):
+    """Groups of neighbours of the same kind, and of transactions of the same edition."""
+    for _, group in itertools.groupby(given, lambda entry: (type(entry), getattr(entry, "edition", 0))):
         while part := list(itertools.islice(group, MOST)):
             yield part

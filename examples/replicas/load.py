@@ -20,7 +20,8 @@ BAD, RUDE, READ = 50, 200, 12
 BATCHES = [1, 1, 1, 3, 16, 64]
 TEXT = 0.25
 OVERWRITTEN = b"skipped: overwrites"
-PROCEDURE = b"""procedure 1
+# In edition 2 a transfer from an account to itself changes nothing.
+PROCEDURE = b"""procedure 2
 key from
 key to
 value amount
@@ -46,27 +47,28 @@ def openings() -> dict[bytes, bytes]:
 
 def transfer(rng: random.Random, text: float = TEXT) -> bytes:
     """Moves an amount from one account to another, if the first has that much, as text or as a call. Some name an account
-    that doesn't exist."""
+    that doesn't exist, some the same account twice."""
     payer, payee = rng.sample(ACCOUNTS, 2)
-    if rng.randrange(40) == 0:
-        payee = "nobody"
+    odd = rng.randrange(40)
+    if odd < 2:
+        payee = "nobody" if odd else payer
     amount = rng.randrange(1, 600)
     if rng.random() >= text:
         return f"call transfer {payer} {payee} {amount}\n".encode()
-    both = " ".join(sorted((payer, payee)))
-    return (f"txn\nreads {both}\nwrites {both}\nneed {payer} >= {amount}\nset {payer} = {payer} - {amount}\n"
+    both = " ".join(sorted({payer, payee}))
+    return (f"log 2\ntxn\nreads {both}\nwrites {both}\nneed {payer} >= {amount}\nset {payer} = {payer} - {amount}\n"
             f"set {payee} = {payee} + {amount}\nshow {payer}\nend\n").encode()
 
 
 def bad_values() -> list[tuple[bytes, bytes]]:
     """Values that are no transaction, each with the reply by which it is skipped. Lines are counted from `log 1`."""
     one = b"txn\nreads\nwrites a\nset a = 1\nend\n"
-    shapeless = [b"", b"\n", b"\0\xff\n", b"hello", one + one, b"a 5\n" + one, b"log 1\n" + one, one[:-1], one + b"\n",
+    shapeless = [b"", b"\n", b"\0\xff\n", b"hello", one + one, b"a 5\n" + one, b"log 1\n" + one, b"log 2\nlog 2\n" + one, one[:-1], one + b"\n",
                  b"txn\nend\nend\n", b"txn\ntxn\nend\n", b"end\ntxn\n", b"txn\r\nreads\r\nwrites\r\nend\r\n",
                  b"call\n", b"call transfer a b 1", b"call transfer  a b 1\n", b"call transfer a b 1\n\n",
                  b"call Transfer a b 1\n", b"call transfer a b 1\ncall transfer a b 1\n", PROCEDURE,
-                 b"define transfer\nprocedure 2\nreads\nwrites\nend\n", b"define 1\nprocedure 1\nreads\nwrites\nend\n"]
-    faulty = [(b"txn\nend\n", b"line 3"),
+                 b"define transfer\nprocedure 3\nreads\nwrites\nend\n", b"define 1\nprocedure 1\nreads\nwrites\nend\n"]
+    faulty = [(b"txn\nend\n", b"line 3"), (b"log 2\ntxn\nreads b a\nwrites\nend\n", b"check order 1 0"),
               (b"txn\nreads\nwrites\nset a = 9223372036854775808\nend\n", b"line 5"),
               (b"txn\nreads\nwrites a\nset a  = 1\nend\n", b"line 5"),
               (b"txn\nreads b a\nwrites\nend\n", b"check order 1 0"),

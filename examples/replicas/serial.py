@@ -2,8 +2,10 @@
 from __future__ import annotations
 
 import hashlib
+import itertools
 import re
 import subprocess
+from collections.abc import Callable
 from dataclasses import dataclass, field
 from pathlib import Path
 from urllib.parse import quote_from_bytes
@@ -11,14 +13,15 @@ from urllib.parse import quote_from_bytes
 from etcd import Change
 from load import OVERWRITTEN, bad_values
 
-HEAD, PREFIX = b"log 1\n", b"log/"
-TRANSFER = re.compile(rb"call transfer (\w+) (\w+) (\d+)\n|txn\n.*\nneed (\w+) >= (\d+)\n.*\nset (\w+) = .*\nshow .*\n",
+HEAD, SECOND, PREFIX = b"log 1\n", b"log 2\n", b"log/"
+TRANSFER = re.compile(rb"call transfer (\w+) (\w+) (\d+)\n|(?:log 2\n)?txn\n.*\nneed (\w+) >= (\d+)\n.*\nset (\w+) = .*\nshow .*\n",
                       re.DOTALL)
 OPENING = re.compile(rb"set (\w+) = (\d+)\n")
 
 
 def instance(text: bytes, arguments: list[bytes]) -> bytes:
-    """The transaction that a call of a procedure represents. No parameter of the procedure may be a statement's word."""
+    """The transaction that a call of a procedure represents, behind a line `log 2` if it is of edition 2. No parameter of the procedure may be a statement's word."""
+    head = SECOND if text.startswith(b"procedure 2\n") else b""
     lines = [line.split(b" ") for line in text.splitlines()[1:-1]]
     names = [line[1] for line in lines if line[0] in (b"key", b"value")]
     count = sum(line[0] == b"key" for line in lines)
@@ -26,7 +29,7 @@ def instance(text: bytes, arguments: list[bytes]) -> bytes:
     lets = [b"let $%s = %s\n" % pair for pair in zip(names[count:], map(literal, arguments[count:]))]
     body = [[stands.get(word, word) for word in line] for line in lines[len(names):]]
     sets = [b" ".join([line[0], *sorted(set(line[1:]))]) + b"\n" for line in body[:2]]
-    return b"".join([b"txn\n", *sets, *lets, *[b" ".join(line) + b"\n" for line in body[2:]], b"end\n"])
+    return b"".join([head, b"txn\n", *sets, *lets, *[b" ".join(line) + b"\n" for line in body[2:]], b"end\n"])
 
 
 def literal(value: bytes) -> bytes:
@@ -75,13 +78,13 @@ def texts_of(puts: list[Change]) -> list[bytes]:
 def run(puts: list[Change], program: Path) -> Serial:
     found = Serial(puts)
     texts = texts_of(puts)
-    found.texts = [text if text.startswith(b"txn\n") else b"" for text in texts]
-    replies, found.store = answer_of(found.texts, program)
-    rest = iter(replies.splitlines())
+    found.texts = [text if is_transaction(text) else b"" for text in texts]
+    replies, found.store = answer_of(found.texts, by_program(program))
+    rest = iter(replies)
     top = 0
     for put, text in zip(puts, texts):
         reply = text
-        if text.startswith(b"txn\n"):
+        if is_transaction(text):
             reply, top = next(rest), top + 1
             move(found.values, put.value or b"", reply, top)
         found.skipped += reply.startswith(b"skipped")
@@ -104,13 +107,28 @@ def move(values: dict[bytes, list[tuple[int, int]]], text: bytes, reply: bytes, 
             values.setdefault(key, []).append((ts, int(value)))
 
 
-def answer_of(texts: list[bytes], program: Path) -> tuple[bytes, bytes]:
-    """The replies of transactions, and the store after them."""
-    answer = subprocess.run([program], input=HEAD + b"".join(texts), stdout=subprocess.PIPE, check=True).stdout
-    replies, _, store = answer.partition(b"--\n")
+def is_transaction(text: bytes) -> bool:
+    return text.startswith((b"txn\n", SECOND + b"txn\n"))
+
+
+def by_program(program: Path) -> Callable[[bytes], bytes]:
+    """The function from a log to its answer by a program."""
+    return lambda log: subprocess.run([program], input=log, stdout=subprocess.PIPE, check=True).stdout
+
+
+def answer_of(texts: list[bytes], answer: Callable[[bytes], bytes]) -> tuple[list[bytes], bytes]:
+    """The replies of transactions, and the store after them. Neighbours of one edition are one log, on the store that the
+    ones before leave."""
+    replies: list[bytes] = []
+    store = b""
+    for is_second, group in itertools.groupby(filter(None, texts), lambda text: text.startswith(SECOND)):
+        log = [SECOND if is_second else HEAD, store, *(text.removeprefix(SECOND) for text in group)]
+        said, _, store = answer(b"".join(log)).partition(b"--\n")
+        top = len(replies)
+        replies += [b"%d %s" % (top + int(ts), reply) for ts, reply in (line.split(b" ", 1) for line in said.splitlines())]
     return replies, store
 
 
 def digest_at(serial: Serial, place: int, program: Path) -> str:
     """The SHA-256 of the serial run's store after `place` entries, with a line `--` before it."""
-    return hashlib.sha256(b"--\n" + answer_of(serial.texts[:place], program)[1]).hexdigest()
+    return hashlib.sha256(b"--\n" + answer_of(serial.texts[:place], by_program(program))[1]).hexdigest()

@@ -41,7 +41,7 @@ def main(library, lines):
     again = bohm.Machine(machine.snapshot(), machine.top, library=library)
     assert again.digest() == machine.digest()
     try:
-        procedures[0].key_of(again.key("a"))
+        machine.prepare("procedure 1\nkey k\nreads k\nwrites\nend").call(again.key("a"))
     except ValueError:
         pass
     else:

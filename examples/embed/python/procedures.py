@@ -11,7 +11,7 @@ carol 0
 """
 
 TRANSFER = """\
-procedure 1
+procedure 2
 key from
 key to
 value amount
@@ -24,7 +24,7 @@ end
 """
 
 AUDIT = """\
-procedure 1
+procedure 2
 reads alice bob carol
 writes
 show alice + bob + carol
@@ -38,7 +38,8 @@ def main(library):
         transfer, audit = machine.prepare(TRANSFER), machine.prepare(AUDIT)
         print(transfer(from_="alice", to="bob", amount=30))
         alice, bob, carol = map(machine.key, ["alice", "bob", "carol"])
-        calls = [transfer.call(bob, carol, 80), transfer.call(alice, carol, amount=70), transfer.call(alice, bob, 1)]
+        calls = [transfer.call(bob, carol, 80), transfer.call(alice, carol, amount=70), transfer.call(alice, bob, 1),
+                 transfer.call(bob, bob, 50)]
         print(*machine.run(calls), audit(), sep="\n")
         print("--", *(f"{key} {value}" for key, value in machine.store_at().items()), sep="\n")
 

@@ -5,21 +5,23 @@
     with bohm.Machine("log 1\\nalice 100\\nbob 20\\n") as machine:
         transfer = machine.prepare(open("transfer.procedure").read())
         reply = transfer(from_="alice", to="bob", amount=30)
-        print(reply.committed, machine.value_at("bob"))
+        print(reply.committed, machine["bob"])
 
 `answer` runs a whole log. Texts are `str` or any bytes-like object. A call that fails raises an exception of its status's
-class, a subclass of `BohmError`."""
+class, a subclass of `BohmError`. `NATIVE` is whether an extension module makes the library's calls, and not ctypes."""
+from ._core import NATIVE, Call, Key
 from .errors import (
-    BohmError, ClosedError, FutureError, HasLogError, HasStoreError, KeptError, NoKeyError, OutOfMemoryError,
+    BohmError, BusyError, ClosedError, FutureError, HasLogError, HasStoreError, KeptError, NoKeyError, OutOfMemoryError,
     RefusedError, Status, StoppedError, TimestampsError, TrimmedError, UnfitError, WaitingError,
 )
 from .library import SHARED, Library, load
-from .machine import Counts, Machine, answer
-from .procedures import Call, Key, Procedure
+from .machine import Counts, Machine, Replies, answer
+from .procedures import Procedure
 from .replies import Answer, Reason, Reply
 
 __all__ = [
-    "SHARED", "Answer", "BohmError", "Call", "ClosedError", "Counts", "FutureError", "HasLogError", "HasStoreError",
-    "KeptError", "Key", "Library", "Machine", "NoKeyError", "OutOfMemoryError", "Procedure", "Reason", "RefusedError",
-    "Reply", "Status", "StoppedError", "TimestampsError", "TrimmedError", "UnfitError", "WaitingError", "answer", "load",
+    "NATIVE", "SHARED", "Answer", "BohmError", "BusyError", "Call", "ClosedError", "Counts", "FutureError", "HasLogError",
+    "HasStoreError", "KeptError", "Key", "Library", "Machine", "NoKeyError", "OutOfMemoryError", "Procedure", "Reason",
+    "RefusedError", "Replies", "Reply", "Status", "StoppedError", "TimestampsError", "TrimmedError", "UnfitError",
+    "WaitingError", "answer", "load",
 ]

@@ -1,6 +1,6 @@
 """The statuses that a call can return, and the exception of each."""
 import enum
-from typing import TYPE_CHECKING, ClassVar, Dict, List, Sequence, Type
+from typing import TYPE_CHECKING, ClassVar, Dict, Sequence, Type
 
 if TYPE_CHECKING:
     from .replies import Reply
@@ -26,7 +26,7 @@ class Status(enum.IntEnum):
 
 
 class BohmError(Exception):
-    """A call failed: its status isn't `Status.DONE`."""
+    """A call failed. Nothing has changed, unless the exception's class says so."""
 
     status: ClassVar[Status]
     why: ClassVar[str]
@@ -103,21 +103,28 @@ class WaitingError(BohmError):
 
 
 class StoppedError(BohmError, MemoryError):
-    """An allocation failed part way. `replies` are those of the transactions that ran: whole batches of 4096."""
+    """An allocation failed part way. `replies` are those of the transactions that ran: whole batches."""
 
     status = Status.STOPPED
     why = "an allocation failed after part of the segment had run"
 
     def __init__(self, replies: Sequence["Reply"] = ()) -> None:
-        self.replies: List["Reply"] = list(replies)
+        self.replies: Sequence["Reply"] = replies
         super().__init__()
 
 
 class KeptError(BohmError, MemoryError):
-    """Transactions ran, but their replies could not be allocated: `Machine.replies` returns them later."""
+    """The last transactions ran, but their replies could not be allocated: `Machine.replies` returns them later."""
 
     status = Status.KEPT
     why = "the replies could not be allocated: take them later"
+
+
+class BusyError(BohmError, RuntimeError):
+    """The machine was called by the thread that it is running a call of: by a signal's handler, a finalizer or a callback."""
+
+    status = Status.MISUSE
+    why = "the machine is running a call of this thread"
 
 
 class UnfitError(BohmError, ValueError):
@@ -143,7 +150,20 @@ BY_STATUS: Dict[Status, Type[BohmError]] = {
 }
 
 
-def raise_for(status: int) -> None:
-    """Raises the exception of a status, unless it is `Status.DONE`."""
-    if status:
-        raise BY_STATUS[Status(status)]()
+def error_for(status: int) -> BohmError:
+    """The exception of a status that isn't `Status.DONE`."""
+    return BY_STATUS[Status(status)]()
+
+
+def refusal_for(line: bytes) -> RefusedError:
+    """The exception of a refusal, from the library's line."""
+    return RefusedError(line.decode().strip())
+
+
+def note_on(error: BaseException, text: str) -> None:
+    """Adds a note to an exception: before Python 3.11 to its arguments."""
+    add = getattr(error, "add_note", None)
+    if add:
+        add(text)
+    else:
+        error.args += (text,)

@@ -1,18 +1,36 @@
 """Machines: stores with their past, to which segments and calls are applied."""
-import ctypes
-import threading
-from ctypes import byref, c_int64, c_uint8, c_uint32
-from typing import Any, Dict, Iterable, List, NamedTuple, Optional, Tuple
+from array import array
+from typing import Any, Dict, Iterator, List, NamedTuple, NoReturn, Optional, Sequence, Tuple, Union
 
-from .errors import ClosedError, KeptError, RefusedError, Status, StoppedError, UnfitError, raise_for
-from .library import Library, RawArray, RawCounts, RawHandle, RawKey, Text, drawn_seed, load, octets
-from .procedures import Call, Key, Procedure
-from .replies import ROW, Answer, Reply, answer_of, replies_of, store_of
+from . import _core
+from ._core import Key
+from .library import Library, Text, drawn_seed, load, octets
+from .procedures import Procedure
+from .replies import Answer, Reply, answer_of, store_of
+
+
+class Replies(_core.Rows, Sequence[Reply]):
+    """The replies of a call, each made when it is looked at. It is a sequence, and equals a list of the same replies."""
+
+    __slots__ = ()
+
+    def __eq__(self, other: object) -> bool:
+        if not isinstance(other, (Replies, list, tuple)):
+            return NotImplemented
+        return len(self) == len(other) and all(mine == theirs for mine, theirs in zip(self, other))
+
+    __hash__ = None  # type: ignore[assignment]
+
+    def __repr__(self) -> str:
+        return repr(self[:]) if len(self) <= 20 else f"<{len(self)} replies, {self[0]!r} to {self[-1]!r}>"
+
+
+_core.use_replies(Replies)
 
 
 class Counts(NamedTuple):
-    """The least and the greatest timestamp that can be read, how many versions are kept, and how many replies are
-    waiting."""
+    """The least and the greatest timestamp that can be read, how many versions are kept, and how many replies no call has
+    returned."""
 
     floor: int
     top: int
@@ -20,221 +38,108 @@ class Counts(NamedTuple):
     waiting: int
 
 
-def timestamp(ts: int) -> int:
-    if not 0 <= ts < 1 << 32:
-        raise ValueError(f"{ts} is not a timestamp")
-    return ts
-
-
 def answer(log: Text, *, library: Optional[Library] = None) -> Answer:
     """Runs a whole log, and returns its answer."""
-    library = library or load()
-    text = octets(log)
-    status, given = library.handed(library.calls.bohm_answer, drawn_seed(), text, len(text))
-    if status == Status.REFUSED:
-        raise RefusedError(given.decode().strip())
-    raise_for(status)
-    return answer_of(given)
+    return answer_of((library or load())._table.answer(drawn_seed(), octets(log)))
 
 
-class Machine:
+class Machine(_core.Machine):
     """A store with its past, from a floor up to a top, which are timestamps.
 
         with bohm.Machine("log 1\\nalice 100\\nbob 20\\n") as machine:
             transfer = machine.prepare(text)
             reply = transfer(from_="alice", to="bob", amount=30)
+            print(machine["bob"], "carol" in machine, len(machine), list(machine))
 
-    Texts are `str` or any bytes-like object. A machine runs one call at a time, from any thread; others block."""
+    Texts are `str` or any bytes-like object. A machine runs one call at a time, from any thread. Others wait: those that
+    change it until the whole call has run, those that read it for a batch of 4,096 transactions at most, and they see the
+    store at a batch's end. A thread whose call is running can't make another one, as from a signal's handler or a
+    finalizer: that is a `BusyError`.
+
+    If a signal's handler raises an exception during a call, the call ends behind a batch, and `replies` returns the replies
+    of what has run."""
 
     def __init__(self, snapshot: Text = b"log 1\n", top: int = 0, *, library: Optional[Library] = None) -> None:
         """Opens a snapshot: the store after the transaction with the timestamp `top`."""
         self.library = library or load()
-        self.lock = threading.RLock()
-        self.lists: Dict[int, RawHandle] = {}
-        self.raw = RawHandle(None)
-        text = octets(snapshot)
-        status, line = self.library.handed(
-            self.library.calls.bohm_open, byref(self.raw), drawn_seed(), text, len(text), timestamp(top))
-        if status == Status.REFUSED:
-            raise RefusedError(line.decode().strip())
-        raise_for(status)
-
-    def opened(self) -> Any:
-        if not self.raw.at:
-            raise ClosedError("the machine is closed")
-        return byref(self.raw)
-
-    def told(self, status: int, behind: int) -> List[Reply]:
-        """The replies of the transactions that just ran, which follow the timestamp `behind`."""
-        if status != Status.STOPPED:
-            raise_for(status)
-        rows, values = RawArray(), RawArray()
-        if self.library.calls.bohm_rows(self.opened(), byref(rows), byref(values)):
-            raise KeptError()
-        replies = replies_of(behind, self.library.taken(rows, ROW.size), self.library.taken(values, 8))
-        if status == Status.STOPPED:
-            raise StoppedError(replies)
-        return replies
-
-    def apply(self, segment: Text) -> List[Reply]:
-        """Runs a segment: the text of a log without a store. The first reply is that of the timestamp `top + 1`."""
-        text = octets(segment)
-        with self.lock:
-            raw, behind = self.opened(), self.top
-            status, line = self.library.handed(self.library.calls.bohm_apply_held, raw, text, len(text))
-            if status == Status.REFUSED:
-                raise RefusedError(line.decode().strip())
-            return self.told(status, behind)
+        super().__init__(self.library._table, drawn_seed(), octets(snapshot), top)
 
     def prepare(self, text: Text) -> Procedure:
-        """Reads and checks a procedure, to be called on this machine."""
-        with self.lock:
-            self.opened()
-            return Procedure(self, text)
-
-    def list_of(self, edition: int) -> Any:
-        """The open list of calls for procedures of an edition."""
-        if edition not in self.lists:
-            raw = RawHandle(None)
-            raise_for(self.library.calls.bohm_open_calls_for(self.opened(), byref(raw), edition))
-            self.lists[edition] = raw
-        return byref(self.lists[edition])
+        """Reads and checks a procedure, to be called on this machine. A `str` may be indented and begin with newlines, as
+        between triple quotes; lines of a refusal are counted from its first one."""
+        return Procedure(self, text)
 
     def key(self, name: Text) -> Key:
-        """Looks up a key. The result replaces its name in calls on this machine, so that a program that uses the same
-        keys again and again looks up each one once."""
-        key = Key(self, octets(name))
-        with self.lock:
-            self.opened()
-            self.handle_of(key, 1)
-        return key
+        """Looks up a key. The result replaces its name in calls on this machine, and its `handle` in columns of `run_many`;
+        a key that is used again and again is then looked up once."""
+        return Key(self, name)
 
-    def handle_of(self, key: Key, edition: int) -> int:
-        """The key's handle in the list of an edition's calls; it is made if there is none."""
-        handle = key.handles.get(edition)
-        if handle is None:
-            made = c_uint32(0)
-            raise_for(self.library.calls.bohm_key_handle(
-                self.list_of(edition), key.name, len(key.name), byref(made)))
-            handle = key.handles[edition] = made.value
-        return handle
-
-    def push(self, calls: Any, call: Call) -> None:
-        procedure, values = call.procedure.opened(), (c_int64 * len(call.values))(*call.values)
-        handles = [self.handle_of(key, call.procedure.edition) for key in call.keys if isinstance(key, Key)]
-        if len(handles) == len(call.keys):
-            by = (c_uint32 * len(handles))(*handles)
-            status = self.library.calls.bohm_push_named(calls, procedure, by, len(handles), values, len(call.values))
-        else:
-            names = [key.name if isinstance(key, Key) else key for key in call.keys]
-            keys = (RawKey * len(names))(*[RawKey(name, len(name)) for name in names])
-            status = self.library.calls.bohm_push(calls, procedure, keys, len(names), values, len(call.values))
-        raise_for(status)
-
-    def run(self, calls: Iterable[Call]) -> List[Reply]:
-        """Runs calls of this machine's procedures, as `apply` runs the segment of their instances. All procedures must
-        have the same edition."""
-        wanted = list(calls)
-        if any(call.procedure.machine is not self for call in wanted):
+    def run_many(self, procedure: Procedure, *columns: Any) -> "Replies":
+        """Runs a call for each row of columns, one for each parameter: buffers, such as arrays of `array` or NumPy, of keys'
+        handles and of whole numbers; or lists of keys and of ints."""
+        if procedure.machine is not self:
             raise ValueError("the procedure belongs to another machine")
-        edition = wanted[0].procedure.edition if wanted else 1
-        if any(call.procedure.edition != edition for call in wanted):
-            raise UnfitError("the procedures have different editions")
-        with self.lock:
-            machine, behind = self.opened(), self.top
-            pushed = self.list_of(edition)
-            try:
-                for call in wanted:
-                    self.push(pushed, call)
-                return self.told(self.library.calls.bohm_run_calls_held(machine, pushed), behind)
-            finally:
-                self.library.calls.bohm_clear_calls(pushed)
+        names = procedure.parameters
+        count = len(procedure.keys)
+        return self._run_columns(procedure, tuple(
+            self._buffer(names[place] if place < len(names) else "", column, place < count) for place, column in enumerate(columns)))
 
-    def replies(self) -> List[Reply]:
-        """The replies that wait after a `KeptError`."""
-        with self.lock:
-            counts = self.counts()
-            return self.told(Status.DONE, counts.top - counts.waiting)
+    def _buffer(self, name: str, column: Any, is_key: bool) -> Any:
+        """A column as a buffer."""
+        if isinstance(column, (str, bytes, bytearray)):
+            raise TypeError(f"{name}: a column is a buffer of whole numbers, or a list")
+        if not isinstance(column, (list, tuple)):
+            return column
+        return array("I", [self._handle_of(name, *each) for each in enumerate(column)]) if is_key else array("q", column)
 
-    def value_at(self, key: Text, ts: Optional[int] = None) -> Optional[int]:
-        """A key's value after the transaction with timestamp `ts`, or at the top: `None` if it has none."""
-        name, present, value = octets(key), c_uint8(0), c_int64(0)
-        with self.lock:
-            raw = self.opened()
-            at = self.top if ts is None else timestamp(ts)
-            status = self.library.calls.bohm_value_at(raw, name, len(name), at, byref(present), byref(value))
-        raise_for(status)
-        return value.value if present.value else None
-
-    def snapshot(self, ts: Optional[int] = None) -> bytes:
-        """The snapshot at a timestamp, or at the top, on which another machine can be opened."""
-        with self.lock:
-            raw = self.opened()
-            at = self.top if ts is None else timestamp(ts)
-            status, given = self.library.handed(self.library.calls.bohm_store_at, raw, at)
-        raise_for(status)
-        return given
+    def _handle_of(self, name: str, row: int, key: Union[Text, Key]) -> int:
+        key = key if isinstance(key, Key) else Key(self, key)
+        if key.machine is not self:
+            raise ValueError(f"{name}[{row}]: the key belongs to another machine")
+        return key.handle
 
     def store_at(self, ts: Optional[int] = None) -> Dict[str, int]:
         """Each key's value after the transaction with timestamp `ts`, or at the top, in key order."""
         return store_of(self.snapshot(ts).decode().splitlines()[1:])
 
-    def digest(self, ts: Optional[int] = None) -> bytes:
-        """The 32-byte digest of the store at a timestamp, or at the top: machines with equal stores have equal
-        digests."""
-        digest = (ctypes.c_char * 32)()
-        with self.lock:
-            raw = self.opened()
-            status = self.library.calls.bohm_digest(raw, self.top if ts is None else timestamp(ts), digest)
-        raise_for(status)
-        return digest.raw
-
-    def trim(self, floor: Optional[int] = None) -> None:
-        """Drops the past below a timestamp, or all of it."""
-        with self.lock:
-            raw = self.opened()
-            status = self.library.calls.bohm_trim(raw, self.top if floor is None else timestamp(floor))
-        raise_for(status)
-
     def counts(self) -> Counts:
         """Counts versions and waiting replies. Its time grows with the number of keys."""
-        raw = RawCounts()
-        with self.lock:
-            self.library.calls.bohm_counts(self.opened(), byref(raw))
-        return Counts(raw.floor, raw.top, raw.versions, raw.waiting)
+        return Counts(*self._counts())
 
-    def timestamps(self) -> Tuple[int, int]:
-        """The least and the greatest timestamp that can be read."""
-        floor, top = c_uint32(0), c_uint32(0)
-        with self.lock:
-            self.library.calls.bohm_timestamps(self.opened(), byref(floor), byref(top))
-        return floor.value, top.value
+    def get(self, key: Union[Text, Key], default: Any = None) -> Any:
+        """A key's value at the top, or the default."""
+        try:
+            return self[key]
+        except KeyError:
+            return default
 
-    @property
-    def floor(self) -> int:
-        """The least timestamp that can be read."""
-        return self.timestamps()[0]
+    def keys(self) -> List[str]:
+        """The keys that have a value at the top, in their order. Its time grows with the store, as those of `len`, `items`
+        and iteration."""
+        return list(self.store_at())
 
-    @property
-    def top(self) -> int:
-        """The timestamp of the last transaction."""
-        return self.timestamps()[1]
+    def items(self) -> List[Tuple[str, int]]:
+        """The keys with their values at the top, in their order."""
+        return list(self.store_at().items())
 
-    def close(self) -> None:
-        """Frees the machine. Does nothing if it is closed."""
-        with self.lock:
-            for calls in self.lists.values():
-                self.library.calls.bohm_close_calls(byref(calls))
-            self.lists.clear()
-            if self.raw.at:
-                self.library.calls.bohm_close(byref(self.raw))
+    def __iter__(self) -> Iterator[str]:
+        return iter(self.keys())
+
+    def __len__(self) -> int:
+        return self.snapshot().count(b"\n") - 1
+
+    def __bool__(self) -> bool:
+        """A machine is true even if its store is empty."""
+        return True
+
+    def __repr__(self) -> str:
+        return "<machine, closed>" if self.closed else f"<machine, timestamps {self.floor} to {self.top}>"
+
+    def __reduce__(self) -> NoReturn:
+        raise TypeError("a machine can't be copied: open another one on its snapshot")
 
     def __enter__(self) -> "Machine":
         return self
 
     def __exit__(self, *what: object) -> None:
         self.close()
-
-    def __del__(self) -> None:
-        if getattr(self, "raw", None):
-            self.close()

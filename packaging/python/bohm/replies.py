@@ -1,7 +1,6 @@
 """Replies, and the answers of whole logs."""
 import enum
-import struct
-from typing import Dict, List, NamedTuple, Optional, Tuple
+from typing import Dict, List, NamedTuple, Optional, Sequence, Tuple
 
 
 class Reason(enum.Enum):
@@ -17,7 +16,7 @@ class Reply(NamedTuple):
     """The reply to the transaction with a timestamp. `str` returns its line in the text of an answer.
 
     A commit has the shown values. An abort has its reason and the number of the statement that aborted, counted from 1;
-    in a call the count begins with the `let`s of the procedure's values."""
+    in a call the count begins with the `let`s of the procedure's values: `Procedure.statement` returns its text."""
 
     timestamp: int
     shows: Tuple[int, ...] = ()
@@ -34,29 +33,19 @@ class Reply(NamedTuple):
         return f"{self.timestamp} abort {self.reason.value} {self.statement}"
 
 
+# A reply's reason, by the library's number of its outcome.
+REASONS = (None, Reason.NEED, Reason.FAIL, Reason.ABSENT, Reason.RANGE)
+
+
 class Answer(NamedTuple):
     """The replies of a log, and the final store. `str` returns the answer's text."""
 
-    replies: List[Reply]
+    replies: Sequence[Reply]
     store: Dict[str, int]
 
     def __str__(self) -> str:
         lines = [*map(str, self.replies), "--", *(f"{key} {value}" for key, value in self.store.items())]
         return "".join(f"{line}\n" for line in lines)
-
-
-# The layout of the library's reply: outcome, statement, the index of its first value among all values, and their count.
-ROW = struct.Struct("=IIQQ")
-REASONS = (None, Reason.NEED, Reason.FAIL, Reason.ABSENT, Reason.RANGE)
-
-
-def replies_of(behind: int, rows: bytes, values: bytes) -> List[Reply]:
-    """The replies made from rows and shown values; they follow the timestamp `behind`."""
-    shown = struct.unpack(f"={len(values) // 8}q", values)
-    return [
-        Reply(timestamp, shown[first:first + count], REASONS[outcome], statement)
-        for timestamp, (outcome, statement, first, count) in enumerate(ROW.iter_unpack(rows), behind + 1)
-    ]
 
 
 def reply_of(line: str) -> Reply:

@@ -4,7 +4,7 @@ use bohm::{Edition, Error, Machine, Procedure};
 const ACCOUNTS: &str = "log 1\nalice 100\nbob 20\ncarol 0\n";
 
 const TRANSFER: &str = "\
-procedure 1
+procedure 2
 key from
 key to
 value amount
@@ -17,7 +17,7 @@ end
 ";
 
 const AUDIT: &str = "\
-procedure 1
+procedure 2
 reads alice bob carol
 writes
 show alice + bob + carol
@@ -29,12 +29,13 @@ fn main() -> Result<(), Error> {
     let mut machine = Machine::open(ACCOUNTS, 0)?;
     let transfer = Procedure::prepare(TRANSFER)?;
     let audit = Procedure::prepare(AUDIT)?;
-    let mut calls = machine.calls(Edition::One)?;
+    let mut calls = machine.calls(Edition::Two)?;
     let (alice, bob, carol) = (calls.key("alice")?, calls.key("bob")?, calls.key("carol")?);
     calls.push_named(&transfer, &[alice, bob], &[30])?;
     calls.push_named(&transfer, &[bob, carol], &[80])?;
     calls.push_named(&transfer, &[alice, carol], &[70])?;
     calls.push_named(&transfer, &[alice, bob], &[1])?;
+    calls.push_named(&transfer, &[bob, bob], &[50])?;
     calls.push_named(&audit, &[], &[])?;
     print!("{}", machine.run(&calls)?);
     print!("--\n{}", &machine.store_at(machine.top())?.as_str()[6..]);

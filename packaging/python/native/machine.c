@@ -1,0 +1,282 @@
+/* Machines: opening, reading, closing. */
+#include "native.h"
+
+static int is_open(machine_object *machine, turn *taken) {
+    if (machine->machine.at) return 0;
+    pass_turn(taken);
+    PyErr_SetString(closed_error, "the machine is closed");
+    return -1;
+}
+
+int begin_reading(machine_object *machine) {
+    if (machine->writing.owner == PyThread_get_thread_ident()) {
+        PyErr_SetNone(busy_error);
+        return -1;
+    }
+    return take_turn(&machine->inside) < 0 ? -1 : is_open(machine, &machine->inside);
+}
+
+void end_reading(machine_object *machine) { pass_turn(&machine->inside); }
+
+int begin_writing(machine_object *machine) {
+    if (machine->inside.owner == PyThread_get_thread_ident()) {
+        PyErr_SetNone(busy_error);
+        return -1;
+    }
+    return take_turn(&machine->writing) < 0 ? -1 : is_open(machine, &machine->writing);
+}
+
+void end_writing(machine_object *machine) { pass_turn(&machine->writing); }
+
+/* A timestamp from an argument, or the top if there is none. */
+static int timestamp_of(machine_object *machine, PyObject *given, uint32_t *ts) {
+    *ts = machine->top;
+    if (!given || given == Py_None) return 0;
+    PyObject *number = PyNumber_Index(given);
+    if (!number) return -1;
+    int over = 0;
+    long long value = PyLong_AsLongLongAndOverflow(number, &over);
+    if (over || value < 0 || value > LAST_TIMESTAMP) PyErr_Format(PyExc_ValueError, "%S is not a timestamp", number);
+    else *ts = (uint32_t)value;
+    Py_DECREF(number);
+    return PyErr_Occurred() ? -1 : 0;
+}
+
+static int machine_init(PyObject *self, PyObject *args, PyObject *named) {
+    machine_object *machine = (machine_object *)self;
+    static char *words[] = {"table", "seed", "snapshot", "top", NULL};
+    PyObject *table, *top;
+    const char *seed;
+    Py_ssize_t seed_len;
+    Py_buffer text;
+    if (machine->table) return PyErr_SetString(PyExc_TypeError, "a machine is opened once"), -1;
+    if (!PyArg_ParseTupleAndKeywords(args, named, "O!y#y*O", words, table_type, &table, &seed, &seed_len, &text, &top)) return -1;
+    uint32_t ts = 0, status = 0;
+    int good = seed_len == sizeof machine->seed && !timestamp_of(machine, top, &ts);
+    bohm_bytes line = BOHM_NO_BYTES;
+    if (good) {
+        Py_INCREF(table);
+        machine->table = (table_object *)table;
+        memcpy(machine->seed, seed, sizeof machine->seed);
+        Py_BEGIN_ALLOW_THREADS
+        status = machine->table->open(&machine->machine, machine->seed, text.buf, (size_t)text.len, ts, &line);
+        Py_END_ALLOW_THREADS
+    }
+    PyBuffer_Release(&text);
+    if (!good) return PyErr_Occurred() ? -1 : (PyErr_SetString(PyExc_ValueError, "a seed has 16 bytes"), -1);
+    if (status == BOHM_REFUSED) return raise_refusal(machine->table, &line), -1;
+    if (status) return raise_status(status), -1;
+    machine->floor = machine->top = ts;
+    machine->indices = PyDict_New();
+    return machine->indices ? 0 : -1;
+}
+
+static void close_handles(machine_object *machine) {
+    if (!machine->table) return;
+    for (int i = 0; i < 2; i++) machine->table->close_calls(machine->lists + i);
+    machine->table->close(&machine->machine);
+}
+
+static PyObject *machine_close(PyObject *self, PyObject *nothing) {
+    machine_object *machine = (machine_object *)self;
+    (void)nothing;
+    if (!machine->machine.at) Py_RETURN_NONE;
+    if (begin_writing(machine) < 0) return NULL;
+    if (take_turn(&machine->inside) < 0) {
+        end_writing(machine);
+        return NULL;
+    }
+    close_handles(machine);
+    end_reading(machine);
+    end_writing(machine);
+    Py_RETURN_NONE;
+}
+
+static int machine_traverse(PyObject *self, visitproc visit, void *arg) {
+    (void)arg;
+    Py_VISIT(Py_TYPE(self));
+    return 0;
+}
+
+static void machine_dealloc(PyObject *self) {
+    machine_object *machine = (machine_object *)self;
+    PyTypeObject *type = Py_TYPE(self);
+    PyObject_GC_UnTrack(self);
+    close_handles(machine);
+    PyMem_Free(machine->keys);
+    Py_XDECREF(machine->indices);
+    Py_XDECREF(machine->pending);
+    Py_XDECREF(machine->table);
+    freefunc release = (freefunc)PyType_GetSlot(type, Py_tp_free);
+    release(self);
+    Py_DECREF(type);
+}
+
+/* 1 with the key's value at a timestamp, 0 if it has none, -1 with an exception set. */
+static int read_value(machine_object *machine, const char *at, size_t len, PyObject *given, int64_t *value) {
+    uint32_t ts, status;
+    uint8_t present = 0;
+    if (begin_reading(machine) < 0) return -1;
+    if (timestamp_of(machine, given, &ts) < 0) return end_reading(machine), -1;
+    if (ts < machine->top && machine->top - ts > FAR_BACK) {
+        Py_BEGIN_ALLOW_THREADS
+        status = machine->table->value_at(&machine->machine, (const uint8_t *)at, len, ts, &present, value);
+        Py_END_ALLOW_THREADS
+    } else {
+        status = machine->table->value_at(&machine->machine, (const uint8_t *)at, len, ts, &present, value);
+    }
+    end_reading(machine);
+    return status ? (raise_status(status), -1) : present;
+}
+
+static PyObject *machine_value_at(PyObject *self, PyObject *args, PyObject *named) {
+    static char *words[] = {"key", "ts", NULL};
+    PyObject *key, *ts = NULL, *held;
+    const char *at;
+    size_t len;
+    if (!PyArg_ParseTupleAndKeywords(args, named, "O|O", words, &key, &ts)) return NULL;
+    int is = key_bytes(key, &at, &len, &held);
+    if (is < 0) return NULL;
+    if (!is) return PyErr_Format(no_key_error, "%R is not a key", key);
+    int64_t value = 0;
+    int has = read_value((machine_object *)self, at, len, ts, &value);
+    Py_DECREF(held);
+    if (has < 0) return NULL;
+    if (has) return PyLong_FromLongLong(value);
+    Py_RETURN_NONE;
+}
+
+/* As read_value, of any object, at the top: what isn't a key has no value. */
+static int look_up(PyObject *self, PyObject *key, int64_t *value) {
+    const char *at;
+    size_t len;
+    PyObject *held;
+    int is = key_bytes(key, &at, &len, &held);
+    if (is <= 0) return is;
+    int has = read_value((machine_object *)self, at, len, NULL, value);
+    Py_DECREF(held);
+    return has;
+}
+
+static PyObject *machine_get(PyObject *self, PyObject *key) {
+    int64_t value = 0;
+    int has = look_up(self, key, &value);
+    if (has == 1) return PyLong_FromLongLong(value);
+    if (!has) PyErr_SetObject(PyExc_KeyError, key);
+    return NULL;
+}
+
+static int machine_contains(PyObject *self, PyObject *key) {
+    int64_t value;
+    return look_up(self, key, &value);
+}
+
+static PyObject *machine_snapshot(PyObject *self, PyObject *args, PyObject *named) {
+    machine_object *machine = (machine_object *)self;
+    static char *words[] = {"ts", NULL};
+    PyObject *given = NULL;
+    uint32_t ts, status = 0;
+    bohm_bytes out = BOHM_NO_BYTES;
+    if (!PyArg_ParseTupleAndKeywords(args, named, "|O", words, &given) || begin_reading(machine) < 0) return NULL;
+    if (timestamp_of(machine, given, &ts) < 0) return end_reading(machine), NULL;
+    Py_BEGIN_ALLOW_THREADS
+    status = machine->table->store_at(&machine->machine, ts, &out);
+    Py_END_ALLOW_THREADS
+    end_reading(machine);
+    if (status) return raise_status(status);
+    PyObject *text = PyBytes_FromStringAndSize((const char *)out.at, (Py_ssize_t)out.len);
+    machine->table->free(out.at);
+    return text;
+}
+
+static PyObject *machine_digest(PyObject *self, PyObject *args, PyObject *named) {
+    machine_object *machine = (machine_object *)self;
+    static char *words[] = {"ts", NULL};
+    PyObject *given = NULL;
+    uint32_t ts, status;
+    uint8_t digest[32];
+    if (!PyArg_ParseTupleAndKeywords(args, named, "|O", words, &given) || begin_reading(machine) < 0) return NULL;
+    if (timestamp_of(machine, given, &ts) < 0) return end_reading(machine), NULL;
+    Py_BEGIN_ALLOW_THREADS
+    status = machine->table->digest(&machine->machine, ts, digest);
+    Py_END_ALLOW_THREADS
+    end_reading(machine);
+    return status ? raise_status(status) : PyBytes_FromStringAndSize((const char *)digest, sizeof digest);
+}
+
+static PyObject *machine_trim(PyObject *self, PyObject *args, PyObject *named) {
+    machine_object *machine = (machine_object *)self;
+    static char *words[] = {"floor", NULL};
+    PyObject *given = NULL;
+    uint32_t ts, status;
+    if (!PyArg_ParseTupleAndKeywords(args, named, "|O", words, &given) || begin_reading(machine) < 0) return NULL;
+    if (timestamp_of(machine, given, &ts) < 0) return end_reading(machine), NULL;
+    Py_BEGIN_ALLOW_THREADS
+    status = machine->table->trim(&machine->machine, ts);
+    Py_END_ALLOW_THREADS
+    if (!status && ts > machine->floor) machine->floor = ts;
+    end_reading(machine);
+    if (status) return raise_status(status);
+    Py_RETURN_NONE;
+}
+
+/* The library fills what it knows of: an older one leaves the rest. */
+static PyObject *machine_counts(PyObject *self, PyObject *nothing) {
+    machine_object *machine = (machine_object *)self;
+    union {
+        bohm_machine_counts known;
+        uint64_t room[16];
+    } counts = {.room = {0}};
+    (void)nothing;
+    if (begin_reading(machine) < 0) return NULL;
+    Py_BEGIN_ALLOW_THREADS
+    machine->table->counts(&machine->machine, &counts.known);
+    Py_END_ALLOW_THREADS
+    end_reading(machine);
+    size_t waiting = machine->has_lone;
+    for (replies_object *each = machine->pending; each; each = each->older) waiting += each->len;
+    return Py_BuildValue("(kkKK)", (unsigned long)counts.known.floor, (unsigned long)counts.known.top,
+                         (unsigned long long)counts.known.versions, (unsigned long long)(counts.known.waiting + waiting));
+}
+
+static PyObject *machine_is_closed(PyObject *self, void *nothing) {
+    (void)nothing;
+    return PyBool_FromLong(!((machine_object *)self)->machine.at);
+}
+
+static PyObject *apply_method(PyObject *self, PyObject *segment) { return machine_apply((machine_object *)self, segment); }
+static PyObject *run_method(PyObject *self, PyObject *calls) { return machine_run((machine_object *)self, calls); }
+static PyObject *columns_method(PyObject *self, PyObject *args) { return machine_run_columns((machine_object *)self, args); }
+static PyObject *replies_method(PyObject *self, PyObject *none) { return machine_replies((machine_object *)self, none); }
+
+#define WITH_WORDS(call) (PyCFunction)(void (*)(void))call, METH_VARARGS | METH_KEYWORDS
+
+static PyMethodDef methods[] = {
+    {"apply", apply_method, METH_O, "Runs a segment."},
+    {"run", run_method, METH_O, "Runs calls."},
+    {"_run_columns", columns_method, METH_VARARGS, "Runs a procedure on columns of arguments."},
+    {"replies", replies_method, METH_NOARGS, "The replies that no call has returned."},
+    {"value_at", WITH_WORDS(machine_value_at), "A key's value at a timestamp, or at the top."},
+    {"snapshot", WITH_WORDS(machine_snapshot), "The snapshot at a timestamp, or at the top."},
+    {"digest", WITH_WORDS(machine_digest), "The digest of the store at a timestamp, or at the top."},
+    {"trim", WITH_WORDS(machine_trim), "Drops the past below a timestamp, or all of it."},
+    {"_counts", machine_counts, METH_NOARGS, "Floor, top, versions, waiting replies."},
+    {"close", machine_close, METH_NOARGS, "Frees the machine. Does nothing if it is closed."},
+    {0}};
+
+static PyMemberDef members[] = {
+    {"floor", T_UINT, offsetof(machine_object, floor), READONLY, "The least timestamp that can be read."},
+    {"top", T_UINT, offsetof(machine_object, top), READONLY, "The timestamp of the last transaction."},
+    {0}};
+
+static PyGetSetDef getters[] = {{"closed", machine_is_closed, NULL, "Whether it is closed.", NULL}, {0}};
+
+static PyType_Slot slots[] = {
+    {Py_tp_doc, "A store with its past."}, {Py_tp_init, machine_init}, {Py_tp_new, PyType_GenericNew},
+    {Py_tp_dealloc, machine_dealloc}, {Py_tp_traverse, machine_traverse}, {Py_tp_methods, methods}, {Py_tp_members, members},
+    {Py_tp_getset, getters}, {Py_mp_subscript, machine_get}, {Py_sq_contains, machine_contains}, {0}};
+
+static PyType_Spec spec = {
+    "bohm._native.Machine", sizeof(machine_object), 0, Py_TPFLAGS_DEFAULT | Py_TPFLAGS_BASETYPE | Py_TPFLAGS_HAVE_GC, slots};
+
+PyTypeObject *make_machine_type(void) { return (PyTypeObject *)PyType_FromSpec(&spec); }

@@ -1,0 +1,594 @@
+"""The Python package, as an extension module or by ctypes: `python.py LIBRARY`, with the package on the path. A machine that is
+entered again says so and does nothing; exceptions leave it usable, with all replies; other threads read between batches."""
+import copy
+import gc
+import os
+import pickle
+import signal
+import sys
+import threading
+import time
+import unittest
+import weakref
+from array import array
+
+import bohm
+
+LIBRARY = bohm.load(sys.argv.pop(1) if len(sys.argv) > 1 else None)
+BATCH = 4096
+LONG = 5 * BATCH + 77 if bohm.NATIVE else 2 * BATCH + 77
+ADD = "procedure 2\nkey k\nvalue n\nreads k\nwrites k\nset k = k + $n\nshow k\nend\n"
+TRANSFER = """
+    procedure 2
+    key from
+    key to
+    value amount
+    reads from to
+    writes from to
+    need $amount > 0
+    need from >= $amount
+    set from = from - $amount
+    set to = to + $amount
+    show from
+    show to
+    end
+"""
+
+
+def opened(store="a 0\nheld 1000000\n", top=0):
+    return bohm.Machine("log 2\n" + store, top, library=LIBRARY)
+
+
+def texts(count, key="a"):
+    """A segment that adds 1 that many times, and shows the sums."""
+    return "log 2\n" + f"txn\nreads {key}\nwrites {key}\nset {key} = {key} + 1\nshow {key}\nend\n" * count
+
+
+class Entered(unittest.TestCase):
+    """A call from within a call either runs before or after it, whole, or is a BusyError, and did nothing."""
+
+    def setUp(self):
+        self.machine = opened()
+        self.add = self.machine.prepare(ADD)
+        self.busy = self.taken = 0
+
+    def take(self):
+        """What a finalizer or a handler does: takes 1 from a key."""
+        try:
+            self.add("held", -1)
+            self.taken += 1
+        except bohm.BusyError:
+            self.busy += 1
+
+    def check(self, asked, replies):
+        self.assertEqual(self.machine.store_at(), {"a": asked, "held": 1000000 - self.taken})
+        self.assertEqual(self.machine.top, asked + self.taken)
+        self.assertEqual([reply.shows for reply in replies], [(number,) for number in range(1, asked + 1)])
+        self.assertEqual(self.add("a", 1).shows, (asked + 1,))
+
+    def test_finalizer(self):
+        outer = self
+
+        class Reservation:
+            def __init__(self):
+                self.self = self
+
+            def __del__(self):
+                outer.take()
+        gc.set_threshold(50)
+        self.addCleanup(gc.set_threshold, 700)
+        replies = []
+        for _ in range(5):
+            calls = []
+            for _ in range(600):
+                Reservation()
+                calls.append(self.add.call("a", 1))
+            replies += self.machine.run(calls)
+        gc.collect()
+        self.assertGreater(self.taken, 0)
+        self.check(3000, replies)
+
+    def test_weak_reference(self):
+        class Thing:
+            pass
+        kept, replies = [], []
+        for number in range(3000):
+            thing = Thing()
+            thing.self = thing
+            kept.append(weakref.ref(thing, lambda _: self.take()))
+            replies.append(self.add("a", 1))
+        del thing
+        gc.collect()
+        self.assertGreater(self.taken, 0)
+        self.check(3000, replies)
+
+    def test_iterator_and_index(self):
+        """A generator of calls and an argument's __index__ may use the machine: the call has not begun."""
+        class Number:
+            def __init__(self, outer):
+                self.outer = outer
+
+            def __index__(self):
+                self.outer.take()
+                return 1
+
+        def calls():
+            for _ in range(5):
+                self.take()
+                yield self.add.call("a", Number(self))
+        replies = self.machine.run(calls())
+        self.assertEqual((self.taken, self.busy), (10, 0))
+        self.check(5, replies)
+
+    def alarmed(self, work):
+        """Lets a handler of a signal that comes again and again use the machine while work is done."""
+        signal.signal(signal.SIGALRM, lambda *_: self.take())
+        self.addCleanup(signal.signal, signal.SIGALRM, signal.SIG_DFL)
+        signal.setitimer(signal.ITIMER_REAL, 0.0005, 0.0005)
+        try:
+            return work()
+        finally:
+            signal.setitimer(signal.ITIMER_REAL, 0)
+
+    def test_handler_in_run(self):
+        calls = [self.add.call("a", 1)] * LONG
+        replies = self.alarmed(lambda: [*self.machine.run(calls), *self.machine.run(calls)])
+        self.assertGreater(self.taken + self.busy, 0)
+        self.check(2 * LONG, replies)
+
+    def test_handler_in_apply(self):
+        replies = self.alarmed(lambda: self.machine.apply(texts(LONG)))
+        self.assertGreater(self.taken + self.busy, 0)
+        self.check(LONG, replies)
+
+    def test_handler_in_columns_and_single_calls(self):
+        key = self.machine.key("a")
+        columns = array("I", [key.handle]) * LONG, array("q", [1]) * LONG
+        replies = self.alarmed(lambda: [*self.machine.run_many(self.add, *columns), *(self.add(key, 1) for _ in range(500))])
+        self.check(LONG + 500, replies)
+
+    def test_reads_are_busy_too(self):
+        seen = set()
+
+        def look(*_):
+            for read in (lambda: self.machine["a"], lambda: self.machine.value_at("a"), self.machine.snapshot,
+                         self.machine.counts, self.machine.close, self.machine.trim, lambda: self.machine.key("x"),
+                         self.machine.replies, lambda: self.machine.prepare(ADD), self.add.close):
+                with self.assertRaises(bohm.BusyError):
+                    read()
+            seen.add(self.machine.top)
+        # A handler surely runs within the call if it does so between two batches.
+        signal.signal(signal.SIGALRM, look)
+        self.addCleanup(signal.signal, signal.SIGALRM, signal.SIG_DFL)
+        if bohm.NATIVE:
+            threading.Timer(0.001, signal.pthread_kill, (threading.main_thread().ident, signal.SIGALRM)).start()
+            while not seen:
+                self.machine.run([self.add.call("a", 0)] * LONG)
+            self.assertEqual({top % LONG % BATCH for top in seen}, {0})
+
+
+class Raised(unittest.TestCase):
+    """Whatever a handler raises in mid-call, what ran is told, its replies can be had, and the next call works."""
+
+    class Stop(Exception):
+        pass
+
+    def setUp(self):
+        self.machine = opened()
+        self.add = self.machine.prepare(ADD)
+        self.key = self.machine.key("a")
+
+    def stopped(self, work, interrupted=False):
+        """Runs work until a signal's exception ends it in the middle. Returns the replies of all that ran, the exception's
+        notes, and how many replies were pending."""
+        def stop(*_):
+            if interrupted:
+                signal.raise_signal(signal.SIGINT)
+            raise Raised.Stop("stop")
+        self.addCleanup(signal.signal, signal.SIGALRM, signal.signal(signal.SIGALRM, stop))
+        replies, delay = [], 0.002
+        while True:
+            behind = self.machine.top
+            try:
+                signal.setitimer(signal.ITIMER_REAL, delay)
+                replies += work()
+                while True:
+                    time.sleep(0.001)
+            except (Raised.Stop, KeyboardInterrupt) as error:
+                self.assertEqual(isinstance(error, KeyboardInterrupt), interrupted)
+                pending = self.machine.replies()
+                self.assertEqual(len(pending), self.machine.top - len(replies))
+                replies += pending
+                if pending and self.machine.top - behind < LONG:
+                    return replies, " ".join([*getattr(error, "__notes__", ()), *map(str, error.args)]), len(pending)
+            delay = delay * 1.3 if self.machine.top == behind else delay * 0.8
+
+    def check(self, work, **words):
+        replies, note, ran = self.stopped(work, **words)
+        top = self.machine.top
+        self.assertEqual(len(replies), top)
+        self.assertEqual([reply.timestamp for reply in replies], list(range(1, top + 1)))
+        self.assertEqual([reply.shows for reply in replies], [(number,) for number in range(1, top + 1)])
+        self.assertEqual(self.machine["a"], top)
+        self.assertIn(f"{ran} transactions ran", note)
+        self.assertEqual(list(self.machine.replies()), [])
+        self.assertEqual(str(self.add("a", 5)), f"{top + 1} commit {top + 5}")
+
+    def test_run(self):
+        self.check(lambda: self.machine.run([self.add.call("a", 1)] * LONG))
+
+    def test_apply(self):
+        self.check(lambda: self.machine.apply(texts(LONG)))
+
+    def test_columns(self):
+        self.check(lambda: self.machine.run_many(self.add, array("I", [self.key.handle]) * LONG, array("q", [1]) * LONG))
+
+    def test_interrupt(self):
+        self.check(lambda: self.machine.run([self.add.call("a", 1)] * LONG), interrupted=True)
+
+    def test_replies_of_several(self):
+        """Replies that nobody took are kept over later calls, in their order."""
+        first, _, _ = self.stopped(lambda: self.machine.run([self.add.call("a", 1)] * LONG))
+        behind = self.machine.top
+        self.assertEqual(len(first), behind)
+        told = self.machine.run([self.add.call("a", 1)] * 3)
+        self.assertEqual([reply.timestamp for reply in told], [behind + 1, behind + 2, behind + 3])
+        self.assertEqual(len(self.machine.replies()), 0)
+
+    def test_single_calls(self):
+        """Signals that raise while single calls are made: each call's reply is returned, or can be had."""
+        def stop(*_):
+            raise Raised.Stop
+        self.addCleanup(signal.signal, signal.SIGALRM, signal.signal(signal.SIGALRM, stop))
+        self.addCleanup(signal.setitimer, signal.ITIMER_REAL, 0)
+        told = lost = 0
+        for _ in range(40):
+            signal.setitimer(signal.ITIMER_REAL, 0.0007)
+            try:
+                while True:
+                    self.add(self.key, 1)
+                    told += 1
+            except Raised.Stop:
+                told += len(self.machine.replies())
+            # The signal may come when the call has returned, and nobody has taken its reply or counted it yet.
+            lost += self.machine.top - told
+            told = self.machine.top
+        self.assertLessEqual(lost, 40)
+        self.assertEqual(self.machine["a"], self.machine.top)
+
+
+class Threads(unittest.TestCase):
+    def test_readers_between_batches(self):
+        """A reader isn't kept waiting by a long run: it sees the store at a batch's end."""
+        machine = opened()
+        add = machine.prepare(ADD)
+        calls = [add.call("a", 1)] * (4 * LONG)
+        seen, done = [], threading.Event()
+
+        def read():
+            while not done.is_set():
+                seen.append(machine["a"])
+        reader = threading.Thread(target=read)
+        reader.start()
+        machine.run(calls)
+        done.set()
+        reader.join()
+        ends = {*range(0, 4 * LONG, BATCH), 4 * LONG}
+        self.assertLessEqual(set(seen), ends)
+        self.assertGreater(len(set(seen)), len(ends) // 2, "batches at whose end the reader had its turn")
+        self.assertEqual(machine["a"], 4 * LONG)
+
+    def test_readers_during_apply(self):
+        machine = opened()
+        text = texts(4 * LONG)
+        seen, done = [], threading.Event()
+
+        def read():
+            while not done.is_set():
+                seen.append(machine.value_at("a"))
+        reader = threading.Thread(target=read)
+        reader.start()
+        machine.apply(text)
+        done.set()
+        reader.join()
+        self.assertLessEqual(set(seen), {*range(0, 4 * LONG, BATCH), 4 * LONG})
+        self.assertGreater(len(set(seen)), 3)
+
+    def test_writers_wait_for_each_other(self):
+        machine = opened()
+        add = machine.prepare(ADD)
+        told = []
+
+        def write(size):
+            for _ in range(3):
+                told.append(machine.run([add.call("a", 1)] * size))
+        writers = [threading.Thread(target=write, args=(size,)) for size in (LONG, 100, BATCH + 1, 1)]
+        for writer in writers:
+            writer.start()
+        for writer in writers:
+            writer.join()
+        total = 3 * (LONG + 100 + BATCH + 1 + 1)
+        self.assertEqual(machine["a"], total)
+        for replies in told:
+            begin = replies[0].timestamp
+            self.assertEqual([reply.shows for reply in replies], [(begin + at,) for at in range(len(replies))])
+
+    def test_the_interpreter_goes_on(self):
+        """Other threads run Python while a machine runs a batch."""
+        machine = opened()
+        add = machine.prepare(ADD)
+        turns, done = [0], threading.Event()
+
+        def count():
+            while not done.is_set():
+                turns[0] += 1
+        counter = threading.Thread(target=count)
+        counter.start()
+        before = turns[0]
+        machine.run([add.call("a", 1)] * LONG)
+        after = turns[0]
+        done.set()
+        counter.join()
+        self.assertGreater(after, before)
+
+
+class Habits(unittest.TestCase):
+    def test_mapping(self):
+        machine = opened("a 5\nb -6\n")
+        self.assertEqual((machine["a"], machine[b"b"], machine[machine.key("a")]), (5, -6, 5))
+        self.assertEqual(("a" in machine, "c" in machine, "A" in machine), (True, False, False))
+        self.assertEqual((len(machine), list(machine), machine.keys(), machine.items()), (2, ["a", "b"], ["a", "b"], [("a", 5), ("b", -6)]))
+        self.assertEqual((machine.get("a"), machine.get("c"), machine.get("c", 0), dict(machine)), (5, None, 0, {"a": 5, "b": -6}))
+        self.assertTrue(opened(""))
+        for key in ("c", "C", ""):
+            with self.assertRaises(KeyError):
+                machine[key]
+        with self.assertRaises(TypeError):
+            machine[5]
+        with self.assertRaises(bohm.NoKeyError):
+            machine.value_at("A")
+
+    def test_transfer_to_itself(self):
+        """In edition 2 nothing changes; in edition 1 the second `set` doesn't see the first one."""
+        machine = opened("alice 100\nbob 20\n")
+        second = machine.prepare(TRANSFER)
+        self.assertEqual(str(second("alice", "alice", 30)), "1 commit 100 100")
+        self.assertEqual(machine.store_at(), {"alice": 100, "bob": 20})
+        first = machine.prepare(TRANSFER.replace("procedure 2", "procedure 1"))
+        self.assertEqual(str(first("alice", "alice", 30)), "2 commit 100 100")
+        self.assertEqual(machine.store_at(), {"alice": 130, "bob": 20})
+        self.assertEqual([str(reply) for reply in machine.run([second.call("alice", "bob", 130), first.call("bob", "alice", 50)])],
+                         ["3 commit 0 150", "4 commit 150 0"])
+
+    def test_texts_of_procedures(self):
+        machine = opened()
+        for text in (TRANSFER, TRANSFER.strip(), TRANSFER.replace("    ", ""), TRANSFER.replace("    ", "\t"), "\n\n" + TRANSFER + "\n\n"):
+            if text == TRANSFER.strip():
+                text = text.replace("    ", "")
+            procedure = machine.prepare(text)
+            self.assertEqual(procedure.parameters, ("from", "to", "amount"))
+            self.assertTrue(procedure.text.startswith("procedure 2\nkey from\n") and procedure.text.endswith("show to\nend\n"))
+        # Bytes are taken as they are.
+        for text in (TRANSFER.encode(), TRANSFER.replace("    ", "").strip().encode(), b""):
+            with self.assertRaises(bohm.RefusedError):
+                machine.prepare(text)
+        with self.assertRaises(bohm.RefusedError) as caught:
+            machine.prepare(TRANSFER.replace("need $amount", "nedd $amount"))
+        self.assertIn("line 7", str(caught.exception))
+
+    def test_statements(self):
+        machine = opened("alice 100\nbob 20\n")
+        transfer = machine.prepare(TRANSFER)
+        reply = transfer("alice", "bob", 101)
+        self.assertEqual((str(reply), transfer.statement(reply.statement)), ("1 abort need 3", "need from >= $amount"))
+        reply = transfer("alice", "bob", 0)
+        self.assertEqual((str(reply), transfer.statement(reply.statement)), ("2 abort need 2", "need $amount > 0"))
+        self.assertEqual(transfer.statement(7), "show to")
+        for number in (0, 8):
+            with self.assertRaises(IndexError):
+                transfer.statement(number)
+
+    def test_names_of_parameters(self):
+        machine = opened("a 1\nb 2\n")
+        names = ["self", "given", "named", "args", "key", "class", "import", "procedure"]
+        text = "".join([f"key {name}\n" for name in names[:4]] + [f"value {name}\n" for name in names[4:]])
+        procedure = machine.prepare("procedure 2\n" + text + "reads args given named self\nwrites\nshow self\nshow given\nshow $class\nend\n")
+        words = {"self": "a", "given": "b", "named": "a", "args": "b", "key": 1, "class_": 2, "import": 3, "procedure": 4}
+        self.assertEqual(procedure(**words).shows, (1, 2, 2))
+        self.assertEqual(machine.run([procedure.call(**words)])[0].shows, (1, 2, 2))
+        for wrong in ({**words, "class": 5}, {**words, "other": 1}, {key: words[key] for key in list(words)[1:]}):
+            for use in (procedure, procedure.call):
+                with self.assertRaises(TypeError):
+                    use(**wrong)
+        with self.assertRaises(TypeError) as caught:
+            procedure("a", "b", "a", "b", 1)
+        self.assertEqual(str(caught.exception), "missing arguments: class_, import_, procedure")
+        with self.assertRaises(TypeError):
+            procedure("a", self="b")
+
+    def test_arguments(self):
+        machine = opened("a 1\n")
+        add = machine.prepare(ADD)
+        a = machine.key("a")
+        for value in (1 << 63, -(1 << 63) - 1, 2 ** 64 + 5):
+            for use in (lambda: add("a", value), lambda: add.call("a", value), lambda: bohm.Call(add, ("a",), (value,))):
+                with self.assertRaisesRegex(OverflowError, f"n: {value} does not fit"):
+                    use()
+        for value in (1.0, "1", None):
+            with self.assertRaisesRegex(TypeError, "n must be an int, not"):
+                add("a", value)
+        for key in ("A", "", b"a-b", "a" * 33, "ä"):
+            with self.assertRaisesRegex(bohm.NoKeyError, "k: .* is not a key"):
+                add.call(key, 1)
+        for key in (5, None, 1.5):
+            with self.assertRaises(TypeError):
+                add(key, 1)
+        with self.assertRaises(ValueError):
+            opened().prepare(ADD)(a, 1)
+        self.assertEqual(machine.top, 0)
+        self.assertEqual(add("a" * 32, -(1 << 63)).reason, bohm.Reason.ABSENT)
+        self.assertEqual(add(bytearray(b"a"), True).shows, (2,))
+        self.assertEqual(add(a, -(1 << 63)).shows, (2 - (1 << 63),))
+
+    def test_calls(self):
+        machine = opened("a 1\nb 2\n")
+        add = machine.prepare(ADD)
+        key = machine.key("b")
+        call = add.call(k=key, n=7)
+        self.assertEqual((call.procedure, call.keys, call.values), (add, (key,), (7,)))
+        self.assertEqual(add.call(b"a", -1).keys, ("a",))
+        self.assertEqual([reply.shows for reply in machine.run([call, bohm.Call(add, ["a"], [5]), call])], [(9,), (6,), (16,)])
+        for calls, kind, told in (([call, 5], TypeError, "call 1: 5 is not a Call"), ([call, opened().prepare(ADD).call("a", 1)], ValueError, "call 1: "),
+                                  (5, TypeError, "")):
+            with self.assertRaisesRegex(kind, told):
+                machine.run(calls)
+        for keys, values in (((), (1,)), (("a", "b"), (1,)), (("a",), ())):
+            with self.assertRaises(TypeError):
+                bohm.Call(add, keys, values)
+        self.assertEqual(machine.top, 3)
+        self.assertEqual(list(machine.run([])), [])
+
+    def test_columns(self):
+        machine = opened("a 10\nb 20\n")
+        transfer = machine.prepare(TRANSFER)
+        a, b = machine.key("a").handle, machine.key("b").handle
+        self.assertEqual((machine.key("a").handle, machine.key("b").name), (a, "b"))
+        told = ["1 commit 7 23", "2 commit 23 7", "3 abort need 3"]
+        for kind, number in (("I", "q"), ("Q", "i"), ("i", "h"), ("l", "b")):
+            machine = opened("a 10\nb 20\n")
+            transfer = machine.prepare(TRANSFER)
+            a, b = machine.key("a").handle, machine.key("b").handle
+            replies = machine.run_many(transfer, array(kind, [a, b, a]), array(kind, [b, b, b]), array(number, [3, 9, 8]))
+            self.assertEqual([str(reply) for reply in replies], ["1 commit 7 23", "2 commit 23 23", "3 abort need 3"])
+        replies = opened("a 10\nb 20\n")
+        transfer = replies.prepare(TRANSFER)
+        self.assertEqual([str(reply) for reply in replies.run_many(transfer, ["a", "b", "a"], [replies.key("b"), "a", b"b"], [3, 16, 30])],
+                         ["1 commit 7 23", "2 commit 7 23", "3 abort need 3"])
+        self.assertEqual(told[0], "1 commit 7 23")
+        steps = memoryview(array("I", [a, 99, b, 99]))[::2], memoryview(array("q", [3, 5]))
+        self.assertEqual([reply.shows for reply in machine.run_many(machine.prepare(ADD), *steps)], [(10,), (28,)])
+
+    def test_wrong_columns(self):
+        machine = opened("a 10\nb 20\n")
+        transfer = machine.prepare(TRANSFER)
+        a, b = machine.key("a").handle, machine.key("b").handle
+        good = array("I", [a] * 5000), array("I", [b] * 5000), array("q", [1] * 5000)
+        bad = array("I", good[0])
+        bad[4999] = 2
+        large = array("Q", good[2])
+        large[3] = 1 << 63
+        for columns, kind, told in (
+                ((bad, *good[1:]), ValueError, r"from\[4999\]: 2 is no handle"), ((*good[:2], large), OverflowError, r"amount\[3\]"),
+                ((good[0], array("i", [-1] * 5000), good[2]), ValueError, r"to\[0\]: -1 is no handle"),
+                ((good[0], good[1][1:], good[2]), ValueError, "to has 4999 items"), (good[:2], TypeError, "3 columns"),
+                ((*good, good[0]), TypeError, "3 columns"), ((*good[:2], array("d", good[2])), TypeError, "amount"),
+                ((b"aaa", *good[1:]), TypeError, "from"), ((5, *good[1:]), TypeError, "from"), ((*good[:2], [1 << 63] * 5000), OverflowError, ""),
+                ((["A"] * 5000, *good[1:]), bohm.NoKeyError, "'A'"), ((*good[:2], memoryview(bytes(8)).cast("B", (2, 4))), TypeError, "amount")):
+            with self.assertRaisesRegex(kind, told):
+                machine.run_many(transfer, *columns)
+        with self.assertRaises(ValueError):
+            machine.run_many(opened().prepare(TRANSFER), *good)
+        self.assertEqual((machine.top, machine.store_at()), (0, {"a": 10, "b": 20}))
+
+    def test_replies_are_a_sequence(self):
+        machine = opened()
+        add = machine.prepare(ADD)
+        replies = machine.run([add.call("a", 2)] * 10)
+        right = [bohm.Reply(number, (2 * number,)) for number in range(1, 11)]
+        self.assertEqual(replies, right)
+        self.assertEqual((replies[0], replies[-1], replies[2:8:3], len(replies)), (right[0], right[9], right[2:8:3], 10))
+        self.assertEqual((list(reversed(replies)), right[3] in replies, replies.index(right[3])), (right[::-1], True, 3))
+        self.assertNotEqual(replies, right[:9])
+        for place in (10, -11):
+            with self.assertRaises(IndexError):
+                replies[place]
+        self.assertIsInstance(replies[0], bohm.Reply)
+        self.assertEqual(hash(replies[0]), hash(right[0]))
+        aborted = machine.run([add.call("none", 2)])[0]
+        self.assertEqual(aborted, bohm.Reply(11, (), bohm.Reason.ABSENT, 2))
+
+    def test_nothing_is_copied(self):
+        machine = opened()
+        for each in (machine, machine.prepare(ADD)):
+            for way in (copy.copy, copy.deepcopy, pickle.dumps):
+                with self.assertRaises(TypeError):
+                    way(each)
+        self.assertEqual(machine["a"], 0)
+
+    def test_closed(self):
+        machine = opened()
+        add = machine.prepare(ADD)
+        call = add.call("a", 1)
+        add.close()
+        add.close()
+        self.assertTrue(add.closed)
+        for use in (lambda: add("a", 1), lambda: machine.run([call]), lambda: machine.run_many(add, ["a"], [1])):
+            with self.assertRaises(bohm.ClosedError):
+                use()
+        with machine:
+            add = machine.prepare(ADD)
+        machine.close()
+        self.assertTrue(machine.closed)
+        for use in (lambda: add("a", 1), lambda: machine.run([]), lambda: machine["a"], machine.snapshot, machine.counts, machine.replies,
+                    lambda: machine.apply("log 1\n"), machine.trim, machine.digest, lambda: machine.key("a"), lambda: machine.prepare(ADD)):
+            with self.assertRaises(bohm.ClosedError):
+                use()
+
+
+class Segments(unittest.TestCase):
+    def test_long_segment(self):
+        machine = opened()
+        replies = machine.apply(texts(LONG))
+        self.assertEqual([reply.shows for reply in replies], [(number,) for number in range(1, LONG + 1)])
+        self.assertEqual((machine["a"], machine.value_at("a", BATCH + 1), machine.top), (LONG, BATCH + 1, LONG))
+
+    def test_refused_whole(self):
+        """A fault in the last batch is refused before the first one runs."""
+        machine = opened()
+        with self.assertRaises(bohm.RefusedError) as caught:
+            machine.apply(texts(LONG) + "txn\nreads b\nwrites\nshow b +\nend\n")
+        self.assertEqual(caught.exception.line, f"refused: line {6 * LONG + 5}")
+        with self.assertRaises(bohm.RefusedError) as caught:
+            machine.apply(texts(LONG) + "txn\nreads\nwrites\nshow b\nend\n")
+        self.assertEqual(caught.exception.line, f"refused: check unread {LONG + 1} 1")
+        with self.assertRaises(bohm.HasStoreError):
+            machine.apply(texts(LONG).replace("log 2\n", "log 2\nb 1\n"))
+        with self.assertRaises(bohm.RefusedError):
+            machine.apply("end\n" * (3 * BATCH))
+        self.assertEqual((machine.top, machine["a"], list(machine.replies())), (0, 0, []))
+
+    def test_timestamps_end(self):
+        for work in (lambda machine, add: machine.apply(texts(LONG)), lambda machine, add: machine.run([add.call("a", 1)] * LONG),
+                     lambda machine, add: machine.run_many(add, ["a"] * LONG, [1] * LONG)):
+            machine = opened(top=2 ** 32 - LONG)
+            add = machine.prepare(ADD)
+            with self.assertRaises(bohm.TimestampsError):
+                work(machine, add)
+            self.assertEqual((machine.top, machine["a"]), (2 ** 32 - LONG, 0))
+            machine.run([add.call("a", 1)] * (LONG - 1))
+            with self.assertRaises(bohm.TimestampsError):
+                add("a", 1)
+            self.assertEqual((machine.top, machine["a"]), (2 ** 32 - 1, LONG - 1))
+        for top in (-1, 2 ** 32):
+            with self.assertRaises(ValueError):
+                opened(top=top)
+
+    def test_past(self):
+        machine = opened("a 0\n")
+        add = machine.prepare(ADD)
+        machine.run([add.call("a", 1)] * 10)
+        self.assertEqual([machine.value_at("a", ts) for ts in (0, 4, 10, None)], [0, 4, 10, 10])
+        machine.trim(5)
+        self.assertEqual((machine.floor, machine.top, machine.counts()[:2]), (5, 10, (5, 10)))
+        with self.assertRaises(bohm.TrimmedError):
+            machine.value_at("a", 4)
+        with self.assertRaises(bohm.FutureError):
+            machine.snapshot(11)
+        self.assertEqual((machine.snapshot(5), machine.store_at(6)), (b"log 1\na 5\n", {"a": 6}))
+        again = bohm.Machine(machine.snapshot(), machine.top, library=LIBRARY)
+        self.assertEqual((again.digest(), again.top), (machine.digest(), 10))
+
+
+if __name__ == "__main__":
+    print("by the extension module" if bohm.NATIVE else "by ctypes", file=sys.stderr)
+    unittest.main(argv=[sys.argv[0], *sys.argv[1:]], verbosity=int(os.environ.get("VERBOSITY", "1")))
