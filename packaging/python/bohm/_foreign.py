@@ -216,12 +216,11 @@ class Procedure:
     values: Tuple[str, ...] = ()
 
     def _prepare(self, machine: "Machine", text: bytes) -> None:
-        self._raw = _Handle(None)
+        self.machine, self._raw = machine, _Handle(None)
         machine._check_turn()
         with machine._inside:
             machine._opened()
             machine._table.asked("bohm_prepare", byref(self._raw), machine._seed, text, len(text))
-        self.machine = machine
 
     def _describe(self, edition: int, keys: Tuple[str, ...], values: Tuple[str, ...], places: Dict[str, int]) -> None:
         self.edition, self.keys, self.values, self._places = edition, keys, values, places
@@ -263,7 +262,7 @@ class Procedure:
     def __del__(self) -> None:
         raw = getattr(self, "_raw", None)
         # Nothing uses it any more, whatever its machine is doing.
-        if raw and raw.at and self.machine:
+        if raw and raw.at:
             self.machine._table.calls["bohm_close_procedure"](byref(raw))
 
 
@@ -284,7 +283,8 @@ class Machine:
         self._indices: Dict[bytes, int] = {}
         self._handles: Dict[Tuple[int, int], int] = {}
         self._pending: Dict[int, _Chunks] = {}
-        self._rows, self._values = _Array(), _Array()
+        # The arrays that replies are taken in, and the timestamp before them.
+        self._taking = -1, _Array(), _Array()
         self._floor = self._top = self._timestamp(top)
         table.asked("bohm_open", byref(self._raw), seed, snapshot, len(snapshot), self._top)
 
@@ -355,29 +355,31 @@ class Machine:
     # --- running ---
 
     def _take_rows(self, into: _Chunks) -> None:
-        """Moves the replies that wait in the library into a call's chunks, if there are any. A call that was interrupted in
-        here may have done a part of it."""
+        """Moves the replies that wait in the library into a call's chunks, which are pending, if there are any. A call that
+        was interrupted in here may have done a part of it."""
         floor, top = c_uint32(0), c_uint32(0)
         self._table.call("bohm_timestamps", self._opened(), byref(floor), byref(top))
         if top.value == self._top:
             return
-        if not self._rows.at and not any(self._top in chunks for chunks in self._pending.values()):
-            if self._table.call("bohm_rows", self._opened(), byref(self._rows), byref(self._values)):
+        if self._taking[0] != self._top:
+            self._taking = self._top, _Array(), _Array()
+        behind, rows, values = self._taking
+        if not any(behind in chunks for chunks in self._pending.values()):
+            if not rows.at and self._table.call("bohm_rows", self._opened(), byref(rows), byref(values)):
                 raise KeptError()
-        if self._rows.at and not any(self._top in chunks for chunks in self._pending.values()):
-            into[self._top] = (ctypes.string_at(self._rows.at, self._rows.len * ROW.size),
-                               ctypes.string_at(self._values.at, self._values.len * 8) if self._values.at else b"")
+            into[behind] = (ctypes.string_at(rows.at, rows.len * ROW.size), ctypes.string_at(values.at, values.len * 8) if values.at else b"")
         self._top = top.value
-        self._table.taken(self._rows, 0)
-        self._table.taken(self._values, 0)
+        self._table.taken(rows, 0)
+        self._table.taken(values, 0)
 
     def _set_aside(self) -> None:
         """Takes the replies that an interrupted call left in the library."""
+        chunks: _Chunks = {}
+        self._pending[id(chunks)] = chunks
         with self._inside:
-            chunks: _Chunks = {}
             self._take_rows(chunks)
-            if chunks:
-                self._pending[id(chunks)] = chunks
+        if not chunks:
+            self._pending.pop(id(chunks))
 
     def _check_room(self, count: int) -> None:
         if count > LAST_TIMESTAMP - self._top:
@@ -418,6 +420,9 @@ class Machine:
 
     def _end_early(self, chunks: _Chunks, error: BaseException) -> None:
         """Raises StoppedError for want of memory; else the replies stay pending."""
+        if not isinstance(error, KeptError):
+            with self._inside:
+                self._take_rows(chunks)
         ran = sum(len(rows) for rows, _ in chunks.values()) // ROW.size
         no_memory = isinstance(error, MemoryError) and not isinstance(error, KeptError)
         if not ran:
@@ -436,11 +441,10 @@ class Machine:
         """The run of a batch whose calls a function appends to the list of an edition."""
         def run() -> int:
             calls = self._list(edition)
-            try:
-                fill()
-                return self._table.call("bohm_run_calls_held", self._opened(), calls)
-            finally:
-                self._table.call("bohm_clear_calls", calls)
+            # An interrupted call may have left some of its own there.
+            self._table.call("bohm_clear_calls", calls)
+            fill()
+            return self._table.call("bohm_run_calls_held", self._opened(), calls)
         return run
 
     def _call_batches(self, calls: Tuple[Call, ...]) -> Iterator[Callable[[], int]]:

@@ -1,6 +1,6 @@
 """The statuses that a call can return, and the exception of each."""
 import enum
-from typing import TYPE_CHECKING, ClassVar, Dict, Sequence, Type
+from typing import TYPE_CHECKING, ClassVar, Dict, Sequence, Tuple, Type
 
 if TYPE_CHECKING:
     from .replies import Reply
@@ -141,13 +141,11 @@ class ClosedError(BohmError, ValueError):
     why = "it is closed"
 
 
-BY_STATUS: Dict[Status, Type[BohmError]] = {
-    kind.status: kind
-    for kind in (
-        RefusedError, OutOfMemoryError, TrimmedError, FutureError, HasStoreError, TimestampsError, HasLogError,
-        NoKeyError, WaitingError, StoppedError, KeptError, UnfitError, ClosedError,
-    )
-}
+KINDS: Tuple[Type[BohmError], ...] = (
+    RefusedError, OutOfMemoryError, TrimmedError, FutureError, HasStoreError, TimestampsError, HasLogError, NoKeyError,
+    WaitingError, StoppedError, KeptError, UnfitError, ClosedError,
+)
+BY_STATUS: Dict[Status, Type[BohmError]] = {kind.status: kind for kind in KINDS}
 
 
 def error_for(status: int) -> BohmError:

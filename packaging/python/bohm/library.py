@@ -15,6 +15,8 @@ FUNCTIONS = (
     "bohm_timestamps", "bohm_counts", "bohm_close", "bohm_prepare", "bohm_close_procedure", "bohm_open_calls_for", "bohm_push",
     "bohm_key_handle", "bohm_push_named", "bohm_run_calls_held", "bohm_clear_calls", "bohm_close_calls", "bohm_free",
 )
+# Functions that an older library doesn't have.
+NEWER = ("bohm_call", "bohm_call_named", "bohm_machine_key")
 
 
 def octets(text: Text) -> bytes:
@@ -34,7 +36,12 @@ class Library:
         beside = os.path.join(os.path.dirname(os.path.abspath(__file__)), SHARED)
         self.path = os.path.abspath(path) if path else beside if os.path.exists(beside) else SHARED
         self._loaded = ctypes.CDLL(self.path)
-        self._table = Table({name: ctypes.cast(getattr(self._loaded, name), ctypes.c_void_p).value or 0 for name in FUNCTIONS})
+        self._table = Table({name: self._address(name) for name in FUNCTIONS + NEWER})
+
+    def _address(self, name: str) -> int:
+        """A function's address; 0 if it is a newer one that the library doesn't have."""
+        function = getattr(self._loaded, name, None) if name in NEWER else getattr(self._loaded, name)
+        return ctypes.cast(function, ctypes.c_void_p).value or 0 if function else 0
 
     def _word(self, name: str) -> str:
         return ctypes.string_at(ctypes.addressof(ctypes.c_char.in_dll(self._loaded, name))).decode()

@@ -82,29 +82,53 @@ int fill_arguments(procedure_object *procedure, PyObject *args, PyObject *named,
     return 0;
 }
 
-static uint32_t push_by_handles(procedure_object *procedure, const key_argument *keys, const int64_t *values) {
-    machine_object *machine = procedure->machine;
-    uint32_t handles[MOST_KEYS], edition = procedure->edition;
+static int are_known(const procedure_object *procedure, const key_argument *keys) {
+    Py_ssize_t known = 0;
+    while (known < procedure->key_count && keys[known].index != NO_HANDLE) known++;
+    return known == procedure->key_count;
+}
+
+static uint32_t handles_of(procedure_object *procedure, uint32_t edition, const key_argument *keys, uint32_t *handles) {
+    uint32_t status = BOHM_DONE;
+    for (Py_ssize_t i = 0; !status && i < procedure->key_count; i++)
+        status = handle_of(procedure->machine, edition, keys[i].index, handles + i);
+    return status;
+}
+
+static void names_of(procedure_object *procedure, const key_argument *keys, bohm_key *names) {
     for (Py_ssize_t i = 0; i < procedure->key_count; i++) {
-        uint32_t status = list_handle(machine, edition, keys[i].index, handles + i);
-        if (status) return status;
+        const known_key *key = keys[i].index == NO_HANDLE ? NULL : procedure->machine->keys + keys[i].index;
+        names[i] = (bohm_key){(const uint8_t *)(key ? key->at : keys[i].at), key ? key->len : keys[i].len};
     }
-    return machine->table->push_named(machine->lists + (edition - 1), &procedure->procedure, handles,
-                                      (size_t)procedure->key_count, values, (size_t)procedure->value_count);
 }
 
 uint32_t push_call(procedure_object *procedure, const key_argument *keys, const int64_t *values) {
-    machine_object *machine = procedure->machine;
-    Py_ssize_t count = procedure->key_count, known = 0;
-    while (known < count && keys[known].index != NO_HANDLE) known++;
-    if (known == count) return push_by_handles(procedure, keys, values);
+    table_object *table = procedure->machine->table;
+    uint32_t handles[MOST_KEYS], edition = procedure->edition;
+    size_t key_count = (size_t)procedure->key_count, value_count = (size_t)procedure->value_count;
+    bohm_calls *list = procedure->machine->lists + (edition - 1);
     bohm_key names[MOST_KEYS];
-    for (Py_ssize_t i = 0; i < count; i++) {
-        const known_key *key = keys[i].index == NO_HANDLE ? NULL : machine->keys + keys[i].index;
-        names[i] = (bohm_key){(const uint8_t *)(key ? key->at : keys[i].at), key ? key->len : keys[i].len};
+    if (!are_known(procedure, keys)) {
+        names_of(procedure, keys, names);
+        return table->push(list, &procedure->procedure, names, key_count, values, value_count);
     }
-    return machine->table->push(machine->lists + (procedure->edition - 1), &procedure->procedure, names, (size_t)count, values,
-                                (size_t)procedure->value_count);
+    uint32_t status = handles_of(procedure, edition, keys, handles);
+    return status ? status : table->push_named(list, &procedure->procedure, handles, key_count, values, value_count);
+}
+
+uint32_t run_directly(procedure_object *procedure, const key_argument *keys, const int64_t *values, bohm_reply *row, int64_t *shown) {
+    table_object *table = procedure->machine->table;
+    bohm_machine *machine = &procedure->machine->machine;
+    uint32_t handles[MOST_KEYS];
+    size_t key_count = (size_t)procedure->key_count, value_count = (size_t)procedure->value_count;
+    bohm_key names[MOST_KEYS];
+    if (!are_known(procedure, keys)) {
+        names_of(procedure, keys, names);
+        return table->call(machine, &procedure->procedure, names, key_count, values, value_count, row, shown, MOST_SHOWN);
+    }
+    uint32_t status = handles_of(procedure, 0, keys, handles);
+    if (status) return status;
+    return table->call_named(machine, &procedure->procedure, handles, key_count, values, value_count, row, shown, MOST_SHOWN);
 }
 
 /* --- a call --- */

@@ -50,12 +50,13 @@ uint32_t open_list(machine_object *machine, uint32_t edition) {
     return list->at ? BOHM_DONE : machine->table->open_calls_for(&machine->machine, list, edition);
 }
 
-uint32_t list_handle(machine_object *machine, uint32_t edition, uint32_t index, uint32_t *handle) {
+uint32_t handle_of(machine_object *machine, uint32_t edition, uint32_t index, uint32_t *handle) {
     known_key *key = machine->keys + index;
-    uint32_t *known = key->handles + (edition - 1);
-    uint32_t status = BOHM_DONE;
+    uint32_t *known = key->handles + edition, status = BOHM_DONE;
+    const uint8_t *at = (const uint8_t *)key->at;
     if (*known == NO_HANDLE)
-        status = machine->table->key_handle(machine->lists + (edition - 1), (const uint8_t *)key->at, key->len, known);
+        status = edition ? machine->table->key_handle(machine->lists + (edition - 1), at, key->len, known)
+                         : machine->table->machine_key(&machine->machine, at, key->len, known);
     *handle = *known;
     return status;
 }
@@ -74,7 +75,7 @@ static int has_key_room(machine_object *machine) {
 static PyObject *add_key(machine_object *machine, const char *at, size_t len, PyObject *bytes) {
     if (!has_key_room(machine)) return PyErr_NoMemory();
     known_key *key = machine->keys + machine->key_count;
-    key->handles[0] = key->handles[1] = NO_HANDLE;
+    key->handles[0] = key->handles[1] = key->handles[2] = NO_HANDLE;
     key->len = (uint32_t)len;
     memcpy(key->at, at, len);
     PyObject *index = PyLong_FromSize_t(machine->key_count);

@@ -2,7 +2,9 @@
 #include "native.h"
 
 PyObject *error_for, *refusal_for, *stopped_for, *busy_error, *no_key_error, *closed_error, *note_on;
-PyObject *reply_class, *replies_class, *reasons[5], *tuple_new;
+PyObject *reply_class, *replies_class, *reasons[5];
+newfunc new_tuple;
+static PyObject *tuple_new;
 PyTypeObject *table_type, *replies_type, *key_type, *procedure_type, *call_type, *machine_type;
 
 /* Sets the exception that a function of bohm.errors makes. */
@@ -23,6 +25,12 @@ PyObject *raise_refusal(table_object *table, bohm_bytes *line) {
     return raise_made(error);
 }
 
+/* Before Python 3.10 a static type's slots can't be had: then tuple.__new__ is called as Python calls it. */
+static PyObject *new_by_name(PyTypeObject *type, PyObject *args, PyObject *named) {
+    (void)named;
+    return PyObject_CallFunctionObjArgs(tuple_new, type, PyTuple_GetItem(args, 0), NULL);
+}
+
 static int take(const char *module, const char *name, PyObject **into) {
     PyObject *from = PyImport_ImportModule(module);
     *into = from ? PyObject_GetAttrString(from, name) : NULL;
@@ -41,6 +49,11 @@ static int take_all(void) {
     for (Py_ssize_t i = 0; i < 5; i++) reasons[i] = PySequence_GetItem(outcomes, i);
     Py_DECREF(outcomes);
     tuple_new = PyObject_GetAttrString((PyObject *)&PyTuple_Type, "__new__");
+    new_tuple = (newfunc)PyType_GetSlot(&PyTuple_Type, Py_tp_new);
+    if (!new_tuple) {
+        PyErr_Clear();
+        new_tuple = new_by_name;
+    }
     return reasons[0] && reasons[1] && reasons[2] && reasons[3] && reasons[4] && tuple_new ? 0 : -1;
 }
 

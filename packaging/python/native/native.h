@@ -71,12 +71,24 @@ void pass_turn(turn *turn);
     each(timestamps) each(counts) each(close) each(prepare) each(close_procedure) each(open_calls_for) each(push) each(key_handle) \
     each(push_named) each(run_calls_held) each(clear_calls) each(close_calls) each(free)
 
+/* Functions that an older library doesn't have: null there. */
+#define NEWER_FUNCTIONS(each) each(call) each(call_named) each(machine_key)
+typedef uint32_t call_function(bohm_machine *machine, const bohm_procedure *procedure, const bohm_key *keys, size_t key_count,
+                               const int64_t *values, size_t value_count, bohm_reply *row, int64_t *shown, size_t room);
+typedef uint32_t call_named_function(bohm_machine *machine, const bohm_procedure *procedure, const uint32_t *handles,
+                                     size_t handle_count, const int64_t *values, size_t value_count, bohm_reply *row,
+                                     int64_t *shown, size_t room);
+typedef uint32_t machine_key_function(bohm_machine *machine, const uint8_t *key, size_t len, uint32_t *handle);
+
 #define DECLARED(name) __typeof__(&bohm_##name) name;
+#define DECLARED_HERE(name) name##_function *name;
 typedef struct {
     PyObject_HEAD
     FUNCTIONS(DECLARED)
+    NEWER_FUNCTIONS(DECLARED_HERE)
 } table_object;
 #undef DECLARED
+#undef DECLARED_HERE
 
 /* --- replies.c --- */
 
@@ -111,9 +123,9 @@ typedef struct machine_object machine_object;
 
 #define NO_HANDLE UINT32_MAX
 
-/* A key that was looked up: its bytes, and its handles in the lists of editions 1 and 2. */
+/* A key that was looked up: its bytes, and its handles on the machine, and in the lists of editions 1 and 2. */
 typedef struct {
-    uint32_t handles[2];
+    uint32_t handles[3];
     uint32_t len;
     char at[32];
 } known_key;
@@ -130,8 +142,9 @@ int is_key(const char *at, size_t len);
 int bytes_of(PyObject *text, const char **at, size_t *len, PyObject **held);
 /* The bytes of a key, or of one that was looked up; 0 if it isn't a key, and then *held is null. */
 int key_bytes(PyObject *key, const char **at, size_t *len, PyObject **held);
-/* Sets *handle to a key's handle in the list of an edition, which is made if there is none. Needs the machine's turn. */
-uint32_t list_handle(machine_object *machine, uint32_t edition, uint32_t index, uint32_t *handle);
+/* Sets *handle to a key's handle in the list of an edition, or on the machine for edition 0; it is made if there is none.
+ * Needs the machine's turn. */
+uint32_t handle_of(machine_object *machine, uint32_t edition, uint32_t index, uint32_t *handle);
 uint32_t open_list(machine_object *machine, uint32_t edition);
 
 /* --- calls.c --- */
@@ -166,8 +179,9 @@ static inline int64_t *call_values(call_object *call) {
 /* Fills the arguments of a call, each key with a reference of its own. -1 with an exception set, and no reference. */
 int fill_arguments(procedure_object *procedure, PyObject *args, PyObject *named, key_argument *keys, int64_t *values);
 void drop_arguments(key_argument *keys, Py_ssize_t count);
-/* Appends a call to a list. Needs the machine's turn, and not the interpreter's lock. */
+/* Appends a call to a list, and runs one without a list. Both need the machine's turn, and not the interpreter's lock. */
 uint32_t push_call(procedure_object *procedure, const key_argument *keys, const int64_t *values);
+uint32_t run_directly(procedure_object *procedure, const key_argument *keys, const int64_t *values, bohm_reply *row, int64_t *shown);
 
 /* --- machine.c, running.c --- */
 
@@ -214,7 +228,8 @@ Py_ssize_t column_length(PyObject *column, PyObject *name);
 /* --- module.c: what bohm's Python modules have --- */
 
 extern PyObject *error_for, *refusal_for, *stopped_for, *busy_error, *no_key_error, *closed_error, *note_on;
-extern PyObject *reply_class, *replies_class, *reasons[5], *tuple_new;
+extern PyObject *reply_class, *replies_class, *reasons[5];
+extern newfunc new_tuple;
 extern PyTypeObject *table_type, *replies_type, *key_type, *procedure_type, *call_type, *machine_type;
 
 /* Sets the exception of a status, or of a refusal with its line. Each returns null. */

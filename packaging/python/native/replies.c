@@ -8,8 +8,8 @@ replies_object *new_replies(table_object *table, size_t room) {
     Py_INCREF(table);
     replies->table = table;
     replies->room = room;
-    replies->chunks = room ? PyMem_Calloc(room, sizeof(chunk)) : NULL;
-    if (room && !replies->chunks) {
+    replies->chunks = PyMem_Malloc((room ? room : 1) * sizeof(chunk));
+    if (!replies->chunks) {
         Py_DECREF(replies);
         PyErr_NoMemory();
         return NULL;
@@ -53,13 +53,27 @@ static PyObject *shown_values(const int64_t *values, uint64_t count) {
     return shows;
 }
 
+/* The items of a reply. A part that is null has an exception set. */
+static PyObject *fields_of(uint32_t timestamp, PyObject *shows, uint32_t outcome, uint32_t statement) {
+    PyObject *parts[] = {PyLong_FromUnsignedLong(timestamp), shows, reasons[outcome], PyLong_FromUnsignedLong(statement)};
+    PyObject *fields = parts[0] && shows && parts[3] ? PyTuple_New(4) : NULL;
+    Py_INCREF(parts[2]);
+    for (int i = 0; i < 4; i++)
+        if (fields) PyTuple_SetItem(fields, i, parts[i]);
+        else Py_XDECREF(parts[i]);
+    return fields;
+}
+
 PyObject *make_reply(uint32_t timestamp, const bohm_reply *row, const int64_t *values) {
-    PyObject *shows = shown_values(values, row->shown);
-    if (!shows) return NULL;
-    PyObject *fields = Py_BuildValue("(kNOk)", (unsigned long)timestamp, shows, reasons[row->outcome], (unsigned long)row->statement);
-    if (!fields) return NULL;
-    PyObject *reply = PyObject_CallFunctionObjArgs(tuple_new, reply_class, fields, NULL);
-    Py_DECREF(fields);
+    PyObject *fields = fields_of(timestamp, shown_values(values, row->shown), row->outcome, row->statement);
+    PyObject *args = fields ? PyTuple_New(1) : NULL;
+    if (!args) {
+        Py_XDECREF(fields);
+        return NULL;
+    }
+    PyTuple_SetItem(args, 0, fields);
+    PyObject *reply = new_tuple((PyTypeObject *)reply_class, args, NULL);
+    Py_DECREF(args);
     return reply;
 }
 
@@ -84,7 +98,7 @@ static PyObject *replies_item(PyObject *self, Py_ssize_t index) {
     const chunk *in = chunk_of(replies, (size_t)index);
     size_t place = (size_t)index - in->start;
     const bohm_reply *row = in->rows + place;
-    return make_reply(in->behind + 1 + (uint32_t)place, row, in->values + row->first);
+    return make_reply(in->behind + 1 + (uint32_t)place, row, row->shown ? in->values + row->first : NULL);
 }
 
 static PyObject *replies_slice(PyObject *self, PyObject *slice) {

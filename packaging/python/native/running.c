@@ -1,9 +1,6 @@
 /* Running: single calls, and runs of many transactions in batches. Between two batches readers of other threads get their
  * turn, and signals are handled. */
-#define _GNU_SOURCE
 #include "native.h"
-
-#include <string.h>
 
 /* --- replies that no call has returned --- */
 
@@ -98,21 +95,33 @@ static uint32_t run_list(machine_object *machine, uint32_t edition) {
     return status;
 }
 
-/* Runs a call with its reply in *row, whose values are shown[0] on. */
-static uint32_t run_one(procedure_object *procedure, const key_argument *keys, const int64_t *values, bohm_reply *row, int64_t *shown) {
-    machine_object *machine = procedure->machine;
-    uint32_t behind = machine->top, status = open_list(machine, procedure->edition);
+static uint32_t run_by_list(procedure_object *procedure, const key_argument *keys, const int64_t *values) {
+    uint32_t status = open_list(procedure->machine, procedure->edition);
     if (!status) status = push_call(procedure, keys, values);
-    if (!status) status = run_list(machine, procedure->edition);
-    if (status) return status == BOHM_STOPPED ? BOHM_NO_MEMORY : status;
-    machine->top++;
+    if (!status) status = run_list(procedure->machine, procedure->edition);
+    return status == BOHM_STOPPED ? BOHM_NO_MEMORY : status;
+}
+
+/* Moves the reply that waits in the library to *row, whose values are shown[0] on. */
+static uint32_t take_row(machine_object *machine, uint32_t behind, bohm_reply *row, int64_t *shown) {
     chunk made;
     if (take_rows(machine, behind, &made)) return BOHM_KEPT;
     *row = made.rows[0];
-    memcpy(shown, made.values + row->first, (size_t)row->shown * sizeof *shown);
+    if (row->shown) memcpy(shown, made.values + row->first, (size_t)row->shown * sizeof *shown);
     machine->table->free(made.rows);
     machine->table->free(made.values);
     return BOHM_DONE;
+}
+
+/* Runs a call with its reply in *row, whose values are shown[0] on. Needs the turns. */
+static uint32_t run_one(procedure_object *procedure, const key_argument *keys, const int64_t *values, bohm_reply *row, int64_t *shown) {
+    machine_object *machine = procedure->machine;
+    int is_direct = machine->table->call && machine->table->call_named && machine->table->machine_key;
+    uint32_t behind = machine->top;
+    uint32_t status = is_direct ? run_directly(procedure, keys, values, row, shown) : run_by_list(procedure, keys, values);
+    if (status && status != BOHM_KEPT) return status;
+    machine->top++;
+    return is_direct && !status ? status : take_row(machine, behind, row, shown);
 }
 
 static void note(const char *text) {
@@ -346,7 +355,7 @@ static uint32_t run_columns(job *job, size_t from, size_t to) {
     size_t keys = (size_t)by->key_count, values = (size_t)by->value_count;
     bohm_calls *list = machine->lists + (edition - 1);
     for (size_t i = from; !status && i < to; i++) {
-        for (size_t j = 0; !status && j < keys; j++) status = list_handle(machine, edition, job->indices[i * keys + j], handles + j);
+        for (size_t j = 0; !status && j < keys; j++) status = handle_of(machine, edition, job->indices[i * keys + j], handles + j);
         if (!status) status = machine->table->push_named(list, &by->procedure, handles, keys, job->values + i * values, values);
     }
     if (!status) return run_list(machine, edition);
