@@ -8,20 +8,26 @@
         print(reply.committed, machine["bob"])
 
 `answer` runs a whole log. Texts are `str` or any bytes-like object. A call that fails raises an exception of its status's
-class, a subclass of `BohmError`. `NATIVE` is whether an extension module makes the library's calls, and not ctypes."""
+class, a subclass of `BohmError`; a ledger on a disk raises `LedgerError` too. `NATIVE` is whether an extension module
+makes the library's calls, and not ctypes."""
 from ._core import NATIVE, Call, Key
+from .entries import Refused
 from .errors import (
     BohmError, BusyError, ClosedError, FutureError, HasLogError, HasStoreError, KeptError, NoKeyError, OutOfMemoryError,
     RefusedError, Status, StoppedError, TimestampsError, TrimmedError, UnfitError, WaitingError,
 )
+from .ledger import Batch, Ledger, Pending, Store
+from .ledger_file import DamagedError, InUseError, LedgerError, NoLedgerError
+from .ledger_state import Defined
 from .library import SHARED, Library, load
 from .machine import Counts, Machine, Replies, answer
 from .procedures import Procedure
 from .replies import Answer, Reason, Reply
 
 __all__ = [
-    "NATIVE", "SHARED", "Answer", "BohmError", "BusyError", "Call", "ClosedError", "Counts", "FutureError", "HasLogError",
-    "HasStoreError", "KeptError", "Key", "Library", "Machine", "NoKeyError", "OutOfMemoryError", "Procedure", "Reason",
-    "RefusedError", "Replies", "Reply", "Status", "StoppedError", "TimestampsError", "TrimmedError", "UnfitError",
-    "WaitingError", "answer", "load",
+    "NATIVE", "SHARED", "Answer", "Batch", "BohmError", "BusyError", "Call", "ClosedError", "Counts", "DamagedError",
+    "Defined", "FutureError", "HasLogError", "HasStoreError", "InUseError", "KeptError", "Key", "Ledger",
+    "LedgerError", "Library", "Machine", "NoKeyError", "NoLedgerError", "OutOfMemoryError", "Pending", "Procedure",
+    "Reason", "Refused", "RefusedError", "Replies", "Reply", "Status", "StoppedError", "Store", "TimestampsError",
+    "TrimmedError", "UnfitError", "WaitingError", "answer", "load",
 ]

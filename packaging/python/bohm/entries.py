@@ -1,0 +1,203 @@
+"""The entries of a ledger or of a replicated log: definitions of procedures, calls of them, transactions as text.
+
+An entry is text: `define NAME` and a procedure's text, `call NAME ARGUMENT..` with keys before values, or the lines of a
+transaction from `txn` to `end`. It may carry an id: `define #ID NAME`, `call #ID NAME ARGUMENT..`, `txn #ID`. The last
+newline may be missing. Bytes that aren't ASCII are held as one character each (Latin-1): no accepted entry has any."""
+import re
+from typing import Dict, Iterator, List, NamedTuple, Optional, Sequence, Tuple, Union
+
+from .library import Text
+
+NAME = "[a-z][a-z0-9_]{0,31}"
+NUMBER = "(?:0|-?[1-9][0-9]{0,18})"
+LEAST, GREATEST = -(1 << 63), (1 << 63) - 1
+# The most bytes of an entry without its id and its last newline.
+LONGEST = 1 << 20
+
+KEY = re.compile(NAME)
+ID = re.compile("[!-~]{1,64}")
+VALUE = re.compile(NUMBER)
+DEFINE = re.compile(f"define (?:#([!-~]{{1,64}}) )?({NAME})\n")
+TXN = re.compile("txn(?: #([!-~]{1,64}))?\n")
+
+
+class Definition(NamedTuple):
+    """From here on the name means the procedure of a text, which ends with a newline unless it is empty."""
+
+    name: str
+    text: str
+
+
+class Call(NamedTuple):
+    """A procedure's name, and an argument for each of its parameters, keys first."""
+
+    name: str
+    arguments: Tuple[str, ...]
+
+
+class Transaction(NamedTuple):
+    """Lines; the first is `txn`."""
+
+    text: str
+
+    @property
+    def writes(self) -> List[str]:
+        """The keys that an accepted transaction declares to write."""
+        return self.text.split("\n", 3)[2].split(" ")[1:]
+
+
+class Refused(NamedTuple):
+    """Why an entry isn't stored, as `refused: line 3`."""
+
+    line: str
+
+    def __str__(self) -> str:
+        return self.line
+
+
+Entry = Union[Definition, Call, Transaction]
+SHAPE, LARGE, TAKEN = (Refused(f"refused: {why}") for why in ("shape", "large", "id"))
+
+
+def text_of(given: Text) -> str:
+    """An entry's text with a newline at its end, one character for each byte."""
+    if not isinstance(given, str):
+        given = bytes(memoryview(given)).decode("latin-1")
+    elif not given.isascii():
+        given = given.encode().decode("latin-1")
+    return given if given.endswith("\n") else given + "\n"
+
+
+def read(text: str) -> Tuple[Optional[str], Union[Entry, Refused]]:
+    """The id of a text that ends with a newline, if it has one, and the entry, or why its first line is none's."""
+    if text.startswith("call "):
+        return read_call(text)
+    if found := TXN.match(text):
+        return found[1], Transaction("txn\n" + text[found.end():])
+    elif found := DEFINE.match(text):
+        return found[1], Definition(found[2], text[found.end():])
+    return None, SHAPE
+
+
+def read_call(text: str) -> Tuple[Optional[str], Union[Call, Refused]]:
+    words = text[:-1].split(" ")
+    request = None
+    if words[1][:1] == "#":
+        request = words.pop(1)[1:]
+        if not ID.fullmatch(request):
+            return None, SHAPE
+    # Words aren't empty, and hold no other bytes than `!` to `~`.
+    if len(words) < 2 or not (text.isascii() and text[:-1].isprintable() and all(words) and KEY.fullmatch(words[1])):
+        return None, SHAPE
+    return request, Call(words[1], tuple(words[2:]))
+
+
+def size_of(text: str, request: Optional[str]) -> int:
+    """The bytes of a text that ends with a newline, without that and the id."""
+    return len(text) - 1 - (0 if request is None else len(" #") + len(request))
+
+
+def find(batch: str, request: str) -> Optional[str]:
+    """The entry of a stored batch that carries an id, with its last newline."""
+    for end in (" ", "\n"):
+        at = batch.find(f" #{request}{end}")
+        while at >= 0:
+            begin = batch.rfind("\n", 0, at) + 1
+            if batch[begin:at] in ("call", "define", "txn"):
+                return next(split(batch, begin))
+            at = batch.find(f" #{request}{end}", at + 1)
+    return None
+
+
+def split(batch: str, at: int = 0) -> Iterator[str]:
+    """The entries of a stored batch from the one at an offset on, each with its last newline."""
+    while at < len(batch):
+        end = batch.find("\n" if batch.startswith("call ", at) else "\nend\n", at)
+        if end < 0:
+            yield batch[at:]
+            return
+        end += 1 if batch.startswith("call ", at) else len("\nend\n")
+        yield batch[at:end]
+        at = end
+
+
+def transactions(batch: str) -> int:
+    """How many entries of a stored batch have sequence numbers."""
+    return sum(not entry.startswith("define ") for entry in split(batch))
+
+
+def ended(text: str) -> Tuple[str, str]:
+    """A text up to its first line `end`, and what follows. An entry that is accepted is followed by nothing."""
+    end = text.find("\nend\n")
+    cut = len(text) if end < 0 else end + len("\nend\n")
+    return text[:cut], text[cut:]
+
+
+def value_of(word: str) -> Optional[int]:
+    """The value that a word is, if it is one as a log writes it."""
+    if not VALUE.fullmatch(word):
+        return None
+    value = int(word)
+    return value if LEAST <= value <= GREATEST else None
+
+
+def sum_of(word: str) -> str:
+    """A value, or a key, as a sum: the least value has no literal."""
+    return f"{LEAST + 1} - 1" if word == str(LEAST) else word
+
+
+class Form:
+    """What a procedure's accepted text says of its calls: their arguments, the keys they write, their instances."""
+
+    def __init__(self, text: str) -> None:
+        self.text = text
+        lines = text.splitlines()
+        sets = next(number for number, line in enumerate(lines) if line.split(" ")[0] == "reads")
+        heads = [line.split(" ") for line in lines[1:sets]]
+        self.keys = [words[1] for words in heads if words[0] == "key"]
+        self.values = [words[1] for words in heads if words[0] == "value"]
+        self.place: Dict[str, int] = {key: place for place, key in enumerate(self.keys)}
+        self.reads, self.writes = lines[sets].split(" ")[1:], lines[sets + 1].split(" ")[1:]
+        slots = [f"let ${value} = {{{len(self.keys) + place}}}" for place, value in enumerate(self.values)]
+        body = [self.slotted(line) for line in lines[sets + 2:]]
+        self.template = "".join(f"{line}\n" for line in [*slots, *body])
+
+    def slotted(self, line: str) -> str:
+        """A statement with `{N}` for each key that is the N-th parameter. Every other word of a sum is an operator."""
+        words = line.split(" ")
+        if words[0] == "need" and len(words) == 3:
+            at = [2]
+        elif words[0] in ("set", "drop"):
+            at = [1, *range(3, len(words), 2)]
+        else:
+            at = list(range(3 if words[0] == "let" else 1, len(words), 2))
+        for place in at:
+            sign = "-" if words[place][0] == "-" else ""
+            number = self.place.get(words[place][len(sign):])
+            if number is not None:
+                words[place] = f"{sign}{{{number}}}"
+        return " ".join(words)
+
+    def named(self, names: Sequence[str], arguments: Sequence[str]) -> Iterator[str]:
+        """The keys that names of a set stand for."""
+        for name in names:
+            place = self.place.get(name)
+            yield name if place is None else arguments[place]
+
+    def fault(self, arguments: Sequence[str]) -> Optional[Refused]:
+        """Why a call with these arguments is refused."""
+        count = len(self.keys)
+        if len(arguments) != count + len(self.values):
+            return Refused("refused: arguments")
+        if any(value_of(word) is None for word in arguments[count:]):
+            return Refused("refused: value")
+        if not all(map(KEY.fullmatch, arguments[:count])):
+            return Refused("refused: key")
+        return None
+
+    def instance(self, arguments: Sequence[str]) -> str:
+        """The transaction that an accepted call stands for."""
+        words = map(sum_of, arguments)
+        reads, writes = (" ".join(sorted({*self.named(names, arguments)})) for names in (self.reads, self.writes))
+        sets = "".join(f"{word} {keys}\n" if keys else f"{word}\n" for word, keys in (("reads", reads), ("writes", writes)))
+        return f"txn\n{sets}{self.template.format(*words)}"

@@ -1,0 +1,204 @@
+"""What a ledger holds in memory: the machine that has run its entries, and its procedures."""
+import itertools
+from typing import Dict, Iterable, Iterator, List, NamedTuple, Optional, Sequence, Set, Tuple, Union
+
+from . import entries
+from .entries import Call, Definition, Entry, Form, Refused, Transaction
+from .errors import RefusedError
+from .library import Library
+from .machine import Machine, answer
+from .procedures import Procedure
+from .replies import Reply, reply_of
+
+# The bytes of text that a machine is given at once, and at most a transaction more. Its limit is twice as much.
+LONGEST_TEXT = 1 << 25
+# A machine is replaced by one that begins at timestamp 0 where it has passed this one: timestamps have 32 bits.
+RESTART = 1 << 31
+
+
+class Defined(NamedTuple):
+    """The answer to a definition."""
+
+    name: str
+
+    def __str__(self) -> str:
+        return f"defined {self.name}"
+
+
+Answer = Union[Reply, Defined, Refused]
+
+
+def answer_of(line: str) -> Answer:
+    """The answer that `str` made a line of."""
+    return Defined(line[len("defined "):]) if line.startswith("defined ") else reply_of(line)
+
+
+class Wanted(NamedTuple):
+    """An entry that isn't run if `barred`: its id is known with another one. If nothing else refuses it, that does."""
+
+    entry: Entry
+    barred: bool = False
+
+
+class Prepared(NamedTuple):
+    """A procedure that a machine has prepared, and its text's form."""
+
+    form: Form
+    procedure: Procedure
+
+
+class State:
+    """A machine on the store after the transaction with a sequence number, and the procedures defined until then."""
+
+    def __init__(self, edition: int, sequence: int, store: Iterable[Tuple[str, int]], library: Optional[Library]) -> None:
+        self.edition, self.library = edition, library
+        self.procedures: Dict[str, Prepared] = {}
+        # The keys that may have changed since the last checkpoint.
+        self.changed: Set[str] = set()
+        # The sequence number of the machine's timestamp 0.
+        self.machine, self.base = opened(sequence, store, library)
+
+    def restart(self, sequence: int, store: Iterable[Tuple[str, int]]) -> None:
+        """Replaces the machine by one on the store after the transaction with a sequence number."""
+        machine, self.base = opened(sequence, store, self.library)
+        self.procedures = {name: Prepared(form, machine.prepare(form.text)) for name, (form, _) in self.procedures.items()}
+        self.machine = machine
+
+    def changes(self) -> Iterator[Tuple[str, Optional[int]]]:
+        """The keys that may have changed since the last checkpoint, with their values."""
+        for key in sorted(self.changed):
+            yield key, self.machine.value_at(key)
+
+    @property
+    def top(self) -> int:
+        """The sequence number of the last transaction."""
+        return self.base + self.machine.top
+
+    def run(self, wanted: Sequence[Wanted]) -> List[Answer]:
+        """Runs entries, and returns the answer to each. After an exception any part of them may have run."""
+        answers: List[Optional[Answer]] = []
+        texts: List[str] = []
+        for entry, barred in wanted:
+            found: Union[str, Answer]
+            if isinstance(entry, Call):
+                found = self.instance(entry)
+            elif isinstance(entry, Transaction):
+                found = self.whole(entry, barred)
+            else:
+                found = self.define(entry, barred)
+            if isinstance(found, str) and not barred:
+                texts.append(found)
+                answers.append(None)
+            else:
+                answers.append(entries.TAKEN if isinstance(found, str) else found)
+        replies = self.replies(texts)
+        return [next(replies) if answer is None else answer for answer in answers]
+
+    def instance(self, call: Call) -> Union[str, Refused]:
+        """The transaction that a call stands for."""
+        prepared = self.procedures.get(call.name)
+        if not prepared:
+            return Refused("refused: procedure")
+        form, arguments = prepared.form, call.arguments
+        fault = form.fault(arguments)
+        if fault:
+            return fault
+        self.changed.update(form.named(form.writes, arguments))
+        return form.instance(arguments)
+
+    def whole(self, transaction: Transaction, barred: bool) -> Union[str, Refused]:
+        """A transaction's text. If it is barred, or more than a transaction, it isn't run with others to see if it is refused."""
+        fault = self.fault(transaction.text) if barred or entries.ended(transaction.text)[1] else None
+        return fault or transaction.text
+
+    def define(self, definition: Definition, barred: bool) -> Answer:
+        text, behind = entries.ended(definition.text)
+        if text and not text.startswith(f"procedure {self.edition}\n"):
+            return Refused("refused: line 1")
+        try:
+            procedure = self.machine.prepare(text.encode("latin-1"))
+        except RefusedError as refusal:
+            return fault_of(refusal.line, text, behind)
+        if behind:
+            return fault_of("", text, behind)
+        if barred:
+            return entries.TAKEN
+        self.procedures[definition.name] = Prepared(Form(text), procedure)
+        return Defined(definition.name)
+
+    def replies(self, texts: Sequence[str]) -> Iterator[Union[Reply, Refused]]:
+        """Runs transactions, and gives the reply to each, or why it is refused."""
+        for piece in pieces(texts):
+            refused: Dict[int, Refused] = {}
+            try:
+                replies = self.apply(piece)
+            except RefusedError:
+                refused = {at: fault for at, text in enumerate(piece) if (fault := self.fault(text))}
+                replies = self.apply([text for at, text in enumerate(piece) if at not in refused])
+            rest = iter(replies)
+            for at, text in enumerate(piece):
+                yield refused[at] if at in refused else next(rest)
+
+    def apply(self, texts: Sequence[str]) -> List[Reply]:
+        """Runs transactions: all of them, or none where a RefusedError is raised. Replies have the ledger's numbers."""
+        if not texts:
+            return []
+        replies = self.machine.apply("".join([f"log {self.edition}\n", *texts]).encode("latin-1"))
+        return [reply._replace(timestamp=self.base + reply.timestamp) for reply in replies] if self.base else replies
+
+    def fault(self, transaction: str) -> Optional[Refused]:
+        """Why a transaction is refused."""
+        text, behind = entries.ended(transaction)
+        try:
+            answer(f"log {self.edition}\n{text}".encode("latin-1"), library=self.library)
+        except RefusedError as refusal:
+            kind, _, number = refusal.line.rpartition(" ")
+            # The log's first line isn't the entry's.
+            return fault_of(f"{kind} {int(number) - 1}" if kind == "refused: line" else refusal.line, text, behind)
+        return fault_of("", text, behind) if behind else None
+
+
+def fault_of(line: str, text: str, behind: str) -> Refused:
+    """The refusal of a text that is refused by itself, unless `line` is empty, or is followed by more behind its end: a bad
+    line comes before the check."""
+    if behind and not line.startswith("refused: line"):
+        return Refused(f"refused: line {text.count(chr(10)) + 1}")
+    return Refused(line)
+
+
+def pieces(texts: Sequence[str]) -> Iterator[List[str]]:
+    """Transactions in groups that a machine reads at once."""
+    piece: List[str] = []
+    size = 0
+    for text in texts:
+        piece.append(text)
+        size += len(text)
+        if size > LONGEST_TEXT:
+            yield piece
+            piece, size = [], 0
+    yield piece
+
+
+def opened(sequence: int, store: Iterable[Tuple[str, int]], library: Optional[Library]) -> Tuple[Machine, int]:
+    """A machine on a store of any size, its keys rising, after the transaction with a sequence number; and the number of the
+    machine's timestamp 0."""
+    rest = iter(store)
+    lines: List[str] = []
+    size = 0
+    for key, value in rest:
+        lines.append(f"{key} {value}\n")
+        size += len(lines[-1])
+        if size > LONGEST_TEXT:
+            break
+    machine = Machine("log 1\n" + "".join(lines), sequence if sequence < RESTART else 0, library=library)
+    # A machine reads a store's text up to a limit: the other keys are set by transactions.
+    while part := list(itertools.islice(rest, 16 * 65_536)):
+        machine.apply("log 1\n" + "".join(setting(part[at:at + 16]) for at in range(0, len(part), 16)))
+    machine.trim()
+    return machine, sequence - machine.top
+
+
+def setting(cells: Sequence[Tuple[str, int]]) -> str:
+    """A transaction that sets at most 16 keys, which rise."""
+    lines = [f"set {key} = {entries.sum_of(str(value))}\n" for key, value in cells]
+    return f"txn\nreads\nwrites {' '.join(key for key, _ in cells)}\n{''.join(lines)}end\n"
