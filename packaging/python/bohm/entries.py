@@ -40,11 +40,6 @@ class Transaction(NamedTuple):
 
     text: str
 
-    @property
-    def writes(self) -> List[str]:
-        """The keys that an accepted transaction declares to write."""
-        return self.text.split("\n", 3)[2].split(" ")[1:]
-
 
 class Refused(NamedTuple):
     """Why an entry isn't stored, as `refused: line 3`."""
@@ -131,6 +126,11 @@ def ended(text: str) -> Tuple[str, str]:
     end = text.find("\nend\n")
     cut = len(text) if end < 0 else end + len("\nend\n")
     return text[:cut], text[cut:]
+
+
+def writes_of(transaction: str) -> List[str]:
+    """The keys that an accepted transaction declares to write."""
+    return transaction.split("\n", 3)[2].split(" ")[1:]
 
 
 def value_of(word: str) -> Optional[int]:

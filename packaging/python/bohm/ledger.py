@@ -6,11 +6,11 @@ import threading
 from types import TracebackType
 from typing import Any, Dict, Iterable, Iterator, List, Optional, Sequence, Tuple, Type, Union, cast
 
-from . import ledger_commit, ledger_file, ledger_recovery
+from . import ledger_commit, ledger_file, ledger_recovery, ledger_state
 from .entries import ID, KEY, Refused, text_of
 from .errors import ClosedError, FutureError, NoKeyError, RefusedError, TrimmedError
 from .ledger_file import LedgerError, LedgerFile
-from .ledger_state import Answer, Defined, RESTART, State
+from .ledger_state import Answer, Defined, State
 from .ledger_turns import MOST, Turns
 from .library import Library, Text, octets
 from .machine import Machine
@@ -260,8 +260,8 @@ class Ledger:
             state.machine.trim()
             if file.archivable >= ARCHIVED:
                 file.archive()
-            if state.machine.top >= RESTART:
-                state.restart(state.top, file.balance())
+            if state.top - state.base >= ledger_state.RESTART:
+                state.restart(file.balance())
         except BaseException:
             self._state = None
             raise

@@ -55,12 +55,13 @@ class State:
         self.procedures: Dict[str, Prepared] = {}
         # The keys that may have changed since the last checkpoint.
         self.changed: Set[str] = set()
-        # The sequence number of the machine's timestamp 0.
+        # The sequence number of the last transaction, and of the machine's timestamp 0.
+        self.top = sequence
         self.machine, self.base = opened(sequence, store, library)
 
-    def restart(self, sequence: int, store: Iterable[Tuple[str, int]]) -> None:
-        """Replaces the machine by one on the store after the transaction with a sequence number."""
-        machine, self.base = opened(sequence, store, self.library)
+    def restart(self, store: Iterable[Tuple[str, int]]) -> None:
+        """Replaces the machine by one on the present store."""
+        machine, self.base = opened(self.top, store, self.library)
         self.procedures = {name: Prepared(form, machine.prepare(form.text)) for name, (form, _) in self.procedures.items()}
         self.machine = machine
 
@@ -68,11 +69,6 @@ class State:
         """The keys that may have changed since the last checkpoint, with their values."""
         for key in sorted(self.changed):
             yield key, self.machine.value_at(key)
-
-    @property
-    def top(self) -> int:
-        """The sequence number of the last transaction."""
-        return self.base + self.machine.top
 
     def run(self, wanted: Sequence[Wanted]) -> List[Answer]:
         """Runs entries, and returns the answer to each. After an exception any part of them may have run."""
@@ -99,12 +95,7 @@ class State:
         prepared = self.procedures.get(call.name)
         if not prepared:
             return Refused("refused: procedure")
-        form, arguments = prepared.form, call.arguments
-        fault = form.fault(arguments)
-        if fault:
-            return fault
-        self.changed.update(form.named(form.writes, arguments))
-        return form.instance(arguments)
+        return prepared.form.fault(call.arguments) or prepared.form.instance(call.arguments)
 
     def whole(self, transaction: Transaction, barred: bool) -> Union[str, Refused]:
         """A transaction's text. If it is barred, or more than a transaction, it isn't run with others to see if it is refused."""
@@ -144,6 +135,9 @@ class State:
         if not texts:
             return []
         replies = self.machine.apply("".join([f"log {self.edition}\n", *texts]).encode("latin-1"))
+        self.top += len(replies)
+        for text in texts:
+            self.changed.update(entries.writes_of(text))
         return [reply._replace(timestamp=self.base + reply.timestamp) for reply in replies] if self.base else replies
 
     def fault(self, transaction: str) -> Optional[Refused]:
