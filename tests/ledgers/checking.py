@@ -1,5 +1,6 @@
 """What a ledger's file must hold, found without the package: the file is read by sqlite3, calls are written out by replacing
 words, and the log is run by the program `bohm`."""
+import contextlib
 import re
 import shutil
 import sqlite3
@@ -28,8 +29,11 @@ def copied(path, folder):
 
 
 def rows_of(path, query):
-    with sqlite3.connect(path) as base:
-        return base.execute(query).fetchall()
+    with contextlib.closing(sqlite3.connect(path)) as base:
+        try:
+            return base.execute(query).fetchall()
+        except sqlite3.Error as error:
+            raise Wrong(f"{path.name}: {error}") from error
 
 
 def batches_of(path):

@@ -139,8 +139,9 @@ class LedgerTables:
         with contextlib.ExitStack() as held:
             archives = [held.enter_context(contextlib.closing(reading(path, immutable=True))) for path in self.archives()]
             rows = [file.execute("SELECT place, first, entries FROM batch ORDER BY place") for file in [*archives, self.connection]]
+            merged = held.enter_context(contextlib.closing(heapq.merge(*rows)))
             last = 0
-            for row in heapq.merge(*rows):
+            for row in merged:
                 # What was archived stands in both files until it is deleted.
                 if row[0] != last:
                     yield StoredBatch._make(row)
@@ -332,7 +333,6 @@ class LedgerFile(LedgerTables):
                 self.drop_archived(archives[-1])
             rows = self.connection.execute(f"SELECT place, first, entries FROM batch WHERE {moving} ORDER BY place")
             if write_archive(new, rows):
-                sync(new)
                 os.rename(new, path)
                 sync(os.path.dirname(path))
                 self.drop_archived(path)
@@ -370,11 +370,12 @@ class LedgerFile(LedgerTables):
 
 
 def write_archive(path: str, rows: Iterable[Tuple[int, int, str]]) -> int:
-    """Makes a database with a table `batch` of these rows. Returns how many they are."""
+    """Makes a database with a table `batch` of these rows, and synchronises it. Returns how many they are."""
     with contextlib.suppress(FileNotFoundError):
         os.remove(path)
     with contextlib.closing(sqlite3.connect(path, isolation_level=None)) as archive:
         archive.execute("PRAGMA journal_mode = OFF")
+        archive.execute("PRAGMA synchronous = FULL")
         archive.execute(declared("batch"))
         archive.execute("BEGIN")
         count = archive.executemany("INSERT INTO batch VALUES (?, ?, ?)", rows).rowcount

@@ -1,6 +1,7 @@
 """What a ledger's file means: the state that its entries lead to, and the log of the transactions that they are."""
+import contextlib
 import itertools
-from typing import Iterable, Iterator, List, Optional, Sequence, Tuple, Type
+from typing import Generator, Iterable, Iterator, List, Optional, Sequence, Tuple, Type
 
 from . import entries
 from .entries import Definition, Entry, Refused, Transaction
@@ -49,7 +50,7 @@ def run(state: State, stored: Sequence[Entry]) -> None:
             raise DamagedError(f"the file has the entry {str(entry)[:100]!r}, to which the answer is `{answer}`")
 
 
-def behind(batches: Iterable[StoredBatch], sequence: int, missing: Type[Exception] = DamagedError) -> Iterator[Tuple[int, Entry]]:
+def behind(batches: Iterable[StoredBatch], sequence: int, missing: Type[Exception] = DamagedError) -> Generator[Tuple[int, Entry], None, None]:
     """The entries of batches but for the transactions up to a sequence number, each with its own number, or with the next
     one's if it is a definition. Raises `missing` where a batch is."""
     last: Optional[StoredBatch] = None
@@ -75,19 +76,27 @@ def log_of(tables: LedgerTables, first: int, last: int, library: Optional[Librar
         state, source = checkpointed(tables, library), behind(tables.behind(), tables.checkpointed)
     else:
         state, source = State(tables.edition, 0, (), library), behind(tables.batches(), 0, TrimmedError)
+    with contextlib.closing(source):
+        rest = run_until(state, source, first)
+        lines = [f"log {tables.edition}\n", *(f"{key} {value}\n" for key, value in state.machine.store_at().items())]
+        lines += transactions(state, (entry for number, entry in itertools.takewhile(lambda one: one[0] <= last, rest)))
+    return "".join(lines)
+
+
+def run_until(state: State, source: Iterator[Tuple[int, Entry]], first: int) -> Iterator[Tuple[int, Entry]]:
+    """Runs the entries before a transaction, and returns it and the others."""
     waiting: List[Entry] = []
+    rest: List[Tuple[int, Entry]] = []
     for number, entry in source:
         if number >= first and not isinstance(entry, Definition):
-            source = itertools.chain([(number, entry)], source)
+            rest.append((number, entry))
             break
         waiting.append(entry)
         if len(waiting) == MANY:
             run(state, waiting)
             waiting = []
     run(state, waiting)
-    lines = [f"log {tables.edition}\n", *(f"{key} {value}\n" for key, value in state.machine.store_at().items())]
-    lines += transactions(state, (entry for _, entry in itertools.takewhile(lambda numbered: numbered[0] <= last, source)))
-    return "".join(lines)
+    return itertools.chain(rest, source)
 
 
 def transactions(state: State, source: Iterable[Entry]) -> Iterator[str]:
