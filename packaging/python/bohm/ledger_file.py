@@ -6,7 +6,7 @@ import json
 import os
 import re
 import sqlite3
-from typing import Dict, Iterable, Iterator, List, NamedTuple, Optional, Sequence, Tuple
+from typing import Dict, Generator, Iterable, Iterator, List, NamedTuple, Optional, Sequence, Tuple
 from urllib.parse import quote
 
 from . import entries
@@ -134,14 +134,13 @@ class LedgerTables:
         found = (numbered.fullmatch(each) for each in os.listdir(folder))
         return [f"{self.path}-{number}" for number in sorted(int(each[1]) for each in found if each)]
 
-    def batches(self) -> Iterator[StoredBatch]:
-        """All batches, of archives too, in their order."""
+    def batches(self) -> Generator[StoredBatch, None, None]:
+        """All batches, of archives too, in their order. It is to be closed before the connection."""
         with contextlib.ExitStack() as held:
             archives = [held.enter_context(contextlib.closing(reading(path, immutable=True))) for path in self.archives()]
             rows = [file.execute("SELECT place, first, entries FROM batch ORDER BY place") for file in [*archives, self.connection]]
-            merged = held.enter_context(contextlib.closing(heapq.merge(*rows)))
             last = 0
-            for row in merged:
+            for row in heapq.merge(*rows):
                 # What was archived stands in both files until it is deleted.
                 if row[0] != last:
                     yield StoredBatch._make(row)

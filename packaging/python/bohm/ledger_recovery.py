@@ -1,7 +1,7 @@
 """What a ledger's file means: the state that its entries lead to, and the log of the transactions that they are."""
 import contextlib
 import itertools
-from typing import Generator, Iterable, Iterator, List, Optional, Sequence, Tuple, Type
+from typing import Iterable, Iterator, List, Optional, Sequence, Tuple, Type
 
 from . import entries
 from .entries import Definition, Entry, Refused, Transaction
@@ -50,7 +50,7 @@ def run(state: State, stored: Sequence[Entry]) -> None:
             raise DamagedError(f"the file has the entry {str(entry)[:100]!r}, to which the answer is `{answer}`")
 
 
-def behind(batches: Iterable[StoredBatch], sequence: int, missing: Type[Exception] = DamagedError) -> Generator[Tuple[int, Entry], None, None]:
+def behind(batches: Iterable[StoredBatch], sequence: int, missing: Type[Exception] = DamagedError) -> Iterator[Tuple[int, Entry]]:
     """The entries of batches but for the transactions up to a sequence number, each with its own number, or with the next
     one's if it is a definition. Raises `missing` where a batch is."""
     last: Optional[StoredBatch] = None
@@ -72,11 +72,11 @@ def behind(batches: Iterable[StoredBatch], sequence: int, missing: Type[Exceptio
 def log_of(tables: LedgerTables, first: int, last: int, library: Optional[Library]) -> str:
     """The log of the transactions from one number to another, with the store before them. Raises TrimmedError if it would
     take entries that were forgotten."""
-    if first > tables.checkpointed:
-        state, source = checkpointed(tables, library), behind(tables.behind(), tables.checkpointed)
-    else:
-        state, source = State(tables.edition, 0, (), library), behind(tables.batches(), 0, TrimmedError)
-    with contextlib.closing(source):
+    with contextlib.closing(tables.batches()) as batches:
+        if first > tables.checkpointed:
+            state, source = checkpointed(tables, library), behind(tables.behind(), tables.checkpointed)
+        else:
+            state, source = State(tables.edition, 0, (), library), behind(batches, 0, TrimmedError)
         rest = run_until(state, source, first)
         lines = [f"log {tables.edition}\n", *(f"{key} {value}\n" for key, value in state.machine.store_at().items())]
         lines += transactions(state, (entry for number, entry in itertools.takewhile(lambda one: one[0] <= last, rest)))
