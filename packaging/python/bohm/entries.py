@@ -11,6 +11,7 @@ from .library import Text
 NAME = "[a-z][a-z0-9_]{0,31}"
 NUMBER = "(?:0|-?[1-9][0-9]{0,18})"
 LEAST, GREATEST = -(1 << 63), (1 << 63) - 1
+LEAST_WORD = str(LEAST)
 # The most bytes of an entry without its id and its last newline.
 LONGEST = 1 << 20
 
@@ -133,21 +134,20 @@ def writes_of(transaction: str) -> List[str]:
     return transaction.split("\n", 3)[2].split(" ")[1:]
 
 
-def value_of(word: str) -> Optional[int]:
-    """The value that a word is, if it is one as a log writes it."""
-    if not VALUE.fullmatch(word):
-        return None
-    value = int(word)
-    return value if LEAST <= value <= GREATEST else None
+def is_value(word: str) -> bool:
+    """Whether a word is a value as a log writes it."""
+    if len(word) < 19 and word.isdigit():
+        return word[0] != "0" or word == "0"
+    return VALUE.fullmatch(word) is not None and LEAST <= int(word) <= GREATEST
 
 
 def sum_of(word: str) -> str:
     """A value, or a key, as a sum: the least value has no literal."""
-    return f"{LEAST + 1} - 1" if word == str(LEAST) else word
+    return f"{LEAST + 1} - 1" if word == LEAST_WORD else word
 
 
 class Form:
-    """What a procedure's accepted text says of its calls: their arguments, the keys they write, their instances."""
+    """What a procedure's accepted text says of its calls: their arguments, and their instances."""
 
     def __init__(self, text: str) -> None:
         self.text = text
@@ -156,48 +156,50 @@ class Form:
         heads = [line.split(" ") for line in lines[1:sets]]
         self.keys = [words[1] for words in heads if words[0] == "key"]
         self.values = [words[1] for words in heads if words[0] == "value"]
-        self.place: Dict[str, int] = {key: place for place, key in enumerate(self.keys)}
-        self.reads, self.writes = lines[sets].split(" ")[1:], lines[sets + 1].split(" ")[1:]
-        slots = [f"let ${value} = {{{len(self.keys) + place}}}" for place, value in enumerate(self.values)]
-        body = [self.slotted(line) for line in lines[sets + 2:]]
-        self.template = "".join(f"{line}\n" for line in [*slots, *body])
+        self.count = len(self.keys) + len(self.values)
+        # The sets' keys by their places among the arguments and, behind those, the keys that are no parameters.
+        self.fixed: List[str] = []
+        self.reads, self.writes = ([*map(self.placed, line.split(" ")[1:])] for line in lines[sets:sets + 2])
+        slots = [f"let ${value} = {{{place}}}" for place, value in enumerate(self.values, len(self.keys))]
+        self.body = "".join(f"{line}\n" for line in [*slots, *map(self.slotted, lines[sets + 2:])])
+
+    def placed(self, name: str) -> int:
+        if name in self.keys:
+            return self.keys.index(name)
+        self.fixed.append(name)
+        return self.count + len(self.fixed) - 1
 
     def slotted(self, line: str) -> str:
-        """A statement with `{N}` for each key that is the N-th parameter. Every other word of a sum is an operator."""
+        """A statement with `{N}` for the N-th key parameter. Every other word of a sum is an operator."""
         words = line.split(" ")
         if words[0] == "need" and len(words) == 3:
             at = [2]
         elif words[0] in ("set", "drop"):
             at = [1, *range(3, len(words), 2)]
         else:
-            at = list(range(3 if words[0] == "let" else 1, len(words), 2))
+            at = [*range(3 if words[0] == "let" else 1, len(words), 2)]
         for place in at:
             sign = "-" if words[place][0] == "-" else ""
-            number = self.place.get(words[place][len(sign):])
-            if number is not None:
-                words[place] = f"{sign}{{{number}}}"
+            name = words[place][len(sign):]
+            if name in self.keys:
+                words[place] = f"{sign}{{{self.keys.index(name)}}}"
         return " ".join(words)
-
-    def named(self, names: Sequence[str], arguments: Sequence[str]) -> Iterator[str]:
-        """The keys that names of a set stand for."""
-        for name in names:
-            place = self.place.get(name)
-            yield name if place is None else arguments[place]
 
     def fault(self, arguments: Sequence[str]) -> Optional[Refused]:
         """Why a call with these arguments is refused."""
-        count = len(self.keys)
-        if len(arguments) != count + len(self.values):
+        if len(arguments) != self.count:
             return Refused("refused: arguments")
-        if any(value_of(word) is None for word in arguments[count:]):
+        keys = len(self.keys)
+        if not all(map(is_value, arguments[keys:])):
             return Refused("refused: value")
-        if not all(map(KEY.fullmatch, arguments[:count])):
+        if not all(map(KEY.fullmatch, arguments[:keys])):
             return Refused("refused: key")
         return None
 
     def instance(self, arguments: Sequence[str]) -> str:
         """The transaction that an accepted call stands for."""
-        words = map(sum_of, arguments)
-        reads, writes = (" ".join(sorted({*self.named(names, arguments)})) for names in (self.reads, self.writes))
-        sets = "".join(f"{word} {keys}\n" if keys else f"{word}\n" for word, keys in (("reads", reads), ("writes", writes)))
-        return f"txn\n{sets}{self.template.format(*words)}"
+        named = [*arguments, *self.fixed]
+        reads = " ".join(["", *sorted({named[place] for place in self.reads})])
+        writes = reads if self.reads == self.writes else " ".join(["", *sorted({named[place] for place in self.writes})])
+        words = [*map(sum_of, arguments)] if LEAST_WORD in arguments else arguments
+        return f"txn\nreads{reads}\nwrites{writes}\n{self.body.format(*words)}"

@@ -7,7 +7,7 @@ from . import entries
 from .entries import Definition, Entry, Refused, Transaction
 from .errors import TrimmedError
 from .ledger_file import DamagedError, LedgerTables, StoredBatch
-from .ledger_state import State, Wanted
+from .ledger_state import State
 from .library import Library
 
 # The entries that are run at once.
@@ -45,7 +45,7 @@ def entry_of(text: str) -> Entry:
 
 def run(state: State, stored: Sequence[Entry]) -> None:
     """Runs entries that were accepted."""
-    for entry, answer in zip(stored, state.run([Wanted(entry) for entry in stored])):
+    for entry, answer in zip(stored, state.run(stored)):
         if isinstance(answer, Refused):
             raise DamagedError(f"the file has the entry {str(entry)[:100]!r}, to which the answer is `{answer}`")
 

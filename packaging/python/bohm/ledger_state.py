@@ -1,6 +1,6 @@
 """What a ledger holds in memory: the machine that has run its entries, and its procedures."""
 import itertools
-from typing import Dict, Iterable, Iterator, List, NamedTuple, Optional, Sequence, Set, Tuple, Union
+from typing import Collection, Dict, Iterable, Iterator, List, NamedTuple, Optional, Sequence, Set, Tuple, Union
 
 from . import entries
 from .entries import Call, Definition, Entry, Form, Refused, Transaction
@@ -33,13 +33,6 @@ def answer_of(line: str) -> Answer:
     return Defined(line[len("defined "):]) if line.startswith("defined ") else reply_of(line)
 
 
-class Wanted(NamedTuple):
-    """An entry that isn't run if `barred`: its id is known with another one. If nothing else refuses it, that does."""
-
-    entry: Entry
-    barred: bool = False
-
-
 class Prepared(NamedTuple):
     """A procedure that a machine has prepared, and its text's form."""
 
@@ -70,23 +63,27 @@ class State:
         for key in sorted(self.changed):
             yield key, self.machine.value_at(key)
 
-    def run(self, wanted: Sequence[Wanted]) -> List[Answer]:
-        """Runs entries, and returns the answer to each. After an exception any part of them may have run."""
+    def run(self, read: Sequence[Entry], barred: Collection[int] = ()) -> List[Answer]:
+        """Runs entries, and returns the answer to each. Those at barred places aren't run: their ids are known with other
+        entries, which refuses them if nothing else does. After an exception any part may have run."""
         answers: List[Optional[Answer]] = []
         texts: List[str] = []
-        for entry, barred in wanted:
+        for entry in read:
             found: Union[str, Answer]
+            is_barred = len(answers) in barred
             if isinstance(entry, Call):
                 found = self.instance(entry)
             elif isinstance(entry, Transaction):
-                found = self.whole(entry, barred)
+                found = self.whole(entry, is_barred)
             else:
-                found = self.define(entry, barred)
-            if isinstance(found, str) and not barred:
+                found = self.define(entry, is_barred)
+            if not isinstance(found, str):
+                answers.append(found)
+            elif is_barred:
+                answers.append(entries.TAKEN)
+            else:
                 texts.append(found)
                 answers.append(None)
-            else:
-                answers.append(entries.TAKEN if isinstance(found, str) else found)
         replies = self.replies(texts)
         return [next(replies) if answer is None else answer for answer in answers]
 
@@ -97,12 +94,13 @@ class State:
             return Refused("refused: procedure")
         return prepared.form.fault(call.arguments) or prepared.form.instance(call.arguments)
 
-    def whole(self, transaction: Transaction, barred: bool) -> Union[str, Refused]:
-        """A transaction's text. If it is barred, or more than a transaction, it isn't run with others to see if it is refused."""
-        fault = self.fault(transaction.text) if barred or entries.ended(transaction.text)[1] else None
+    def whole(self, transaction: Transaction, is_barred: bool) -> Union[str, Refused]:
+        """A transaction's text, or why it is refused, if it is barred or more than one transaction: then it isn't run with
+        others to see."""
+        fault = self.fault(transaction.text) if is_barred or entries.ended(transaction.text)[1] else None
         return fault or transaction.text
 
-    def define(self, definition: Definition, barred: bool) -> Answer:
+    def define(self, definition: Definition, is_barred: bool) -> Answer:
         text, behind = entries.ended(definition.text)
         if text and not text.startswith(f"procedure {self.edition}\n"):
             return Refused("refused: line 1")
@@ -112,7 +110,7 @@ class State:
             return fault_of(refusal.line, text, behind)
         if behind:
             return fault_of("", text, behind)
-        if barred:
+        if is_barred:
             return entries.TAKEN
         self.procedures[definition.name] = Prepared(Form(text), procedure)
         return Defined(definition.name)
