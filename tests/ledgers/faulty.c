@@ -2,6 +2,7 @@
  *     FAULTY_FAIL=N     from the N-th fsync or fdatasync on, FAULTY_TIMES of them fail with EIO, and do nothing
  *     FAULTY_SHADOW=D   each fsync or fdatasync of a file copies it to D/I, where I is its inode's number, and each one of
  *                       a folder writes the names in it, with their inodes' numbers, to D/names; nothing is synchronised
+ *     FAULTY_SLOW=U     with it, each takes U microseconds more, before anything is copied
  * A copy is renamed into place, so a process that is killed leaves the old one or the new one. */
 #define _GNU_SOURCE
 #include <dirent.h>
@@ -72,7 +73,11 @@ static int synced(int file, const char *name) {
     pthread_mutex_lock(&turn);
     long number = ++count;
     int is_failing = fail && number >= atol(fail) && number < atol(fail) + (times ? atol(times) : 1);
-    if (!is_failing && shadow) keep(shadow, file);
+    if (!is_failing && shadow) {
+        const char *slow = getenv("FAULTY_SLOW");
+        if (slow) usleep((unsigned)atol(slow));
+        keep(shadow, file);
+    }
     pthread_mutex_unlock(&turn);
     if (is_failing) {
         errno = EIO;
