@@ -1,5 +1,5 @@
 //! Tests of the layers that a run is made of, over their public calls. They cover texts, sums
-//! without terms, procedures and their calls, sure transactions, plans, sweeps by several passes and
+//! without terms, hashes under many seeds, procedures and their calls, sure transactions, plans, sweeps by several passes and
 //! threads, and histories in use. The logs, the gate and the generator are shared with the tests of whole runs.
 #![tactic(auto)]
 
@@ -13,6 +13,8 @@ mod crowds;
 #[cfg(test)]
 mod documents;
 mod draws;
+#[cfg(test)]
+mod hash_seeds;
 #[cfg(test)]
 mod histories;
 #[cfg(test)]

@@ -13,3 +13,4 @@ pub mod Slices
 pub mod Locals
 pub mod SoundLogs
 pub mod Sizes
+pub mod Hashing

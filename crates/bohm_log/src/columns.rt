@@ -1,6 +1,6 @@
 //! The columns that all transactions share.
 
-ghost use Rattle.std.specs.Prelude.{◌≡◌, ◌≢◌, ◌≤◌, ◌+◌, ◌^◌, [], ◌∷◌, ◌++◌, IfOk, OnOk, OnErr};
+ghost use Rattle.std.specs.Prelude.{◌≡◌, ◌≢◌, ◌<◌, ◌≤◌, ◌+◌, ◌*◌, ◌^◌, max, min, [], ◌∷◌, ◌++◌, IfOk, OnOk, OnErr};
 ghost use Rattle.std.specs.Prelude.{Some, Err, true};
 ghost use Rattle.bohm_log.specs.declared.fault.LogFault.TheVariants.{Full};
 ghost use Rattle.bohm_log.specs.Columns.{cut_to, ends_of, entries_in, held_with};
@@ -193,6 +193,15 @@ impl<S: BuildHasher> Columns<S> {
     }
 }
 
+/// The most names that cleared columns keep besides the shared ones, if transactions declared this
+/// many keys and this many handles were made.
+fn most_kept(declared: usize, handles: usize) -> usize
+    ensures { declared < 2 ^ 61 → result ≡ max 16384 (4 * (declared + min handles 65536)) }
+{
+    let used = declared.saturating_add(handles.min(KEPT_HANDLES));
+    FEWEST_KEPT.max(used.saturating_mul(KEPT_NAMES))
+}
+
 /// Removes all entries of a column. Its capacity is kept if it is for at most four times as many,
 /// or for at most `KEPT_ROOM`; otherwise it is freed.
 pub(crate) fn empty<T: Copy>(column: &mut Vec<T>)
@@ -320,11 +329,7 @@ impl<S: BuildHasher + Drop> Columns<S> {
         ensures empty { entries_in (shared_of self.new) ≡ 0 }
         ensures names { length self.new.names ≤ 2 ^ 30 }
     {
-        let used = self
-            .ids
-            .len()
-            .saturating_add(self.handles.min(KEPT_HANDLES));
-        let most = FEWEST_KEPT.max(used.saturating_mul(KEPT_NAMES));
+        let most = most_kept(self.ids.len(), self.handles);
         if self.names.own_len() > most || self.names.len() > MOST_NAMED {
             self.names.clear();
         }
