@@ -1,7 +1,9 @@
 -- The lemmas of this crate that other crates cite. Each lemma is proved in the file of its subject.
 
 -- the lines of a document's text
-pub use Rattle.bohm_text.proofs.TextLaws.{lines_of_text}
+pub use Rattle.bohm_text.proofs.TextLaws.{lines_of_text, one_text}
+-- a text is a document's, or has one first bad line, or is short
+pub use Rattle.bohm_text.proofs.Verdicts.{one_line, bad_not_short, document_not_bad}
 -- texts that are printed element by element
 pub use Rattle.bohm_text.proofs.Printed.{print_more, spaced_append, lines_append}
 -- how a text is split, by the index of its first separator

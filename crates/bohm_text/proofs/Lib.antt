@@ -21,6 +21,7 @@ mod Fronts
 mod Ahead
 mod Verbs
 mod TextLaws
+mod Verdicts
 mod TidyLaws
 mod Behind
 mod WindowLaws

@@ -73,12 +73,11 @@ pub(crate) fn put_reply(
     Ok(())
 }
 
-/// Appends a line for each reply, numbered from `first`. The time grows with the length of the
-/// lines. After an error `out` contains a prefix of the lines.
-pub fn put_replies(out: &mut Vec<u8>, first: u64, replies: &Replies) -> Result<(), NoMemory>
+fn put_lines(out: &mut Vec<u8>, first: u64, replies: &Replies) -> Result<(), NoMemory>
     requires { first + length replies.now ≤ 2 ^ 64 }
-    ensures { IfOk result
+    ensures ok { IfOk result
         (λ _. out.new.items ≡ out.old.items ++ print_numbered first replies.now) }
+    ensures err { OnErr result (BeginsWith out.old.items out.new.items) }
 {
     for index in 0..replies.len() {
         let (outcome, shows) = replies.get(index).parts();
@@ -87,13 +86,35 @@ pub fn put_replies(out: &mut Vec<u8>, first: u64, replies: &Replies) -> Result<(
     Ok(())
 }
 
-/// Appends the line `--`, then a line for each key. The time grows with the length of the lines.
-/// After an error `out` contains a prefix of the lines.
-pub fn put_store(out: &mut Vec<u8>, entries: &[(Key, Value)]) -> Result<(), NoMemory>
-    ensures { IfOk result (λ _. out.new.items ≡ out.old.items ++ print_store entries.now) }
+/// Appends a line for each reply, numbered from `first`. The time grows with the length of the
+/// lines. An error leaves `out` unchanged.
+pub fn put_replies(out: &mut Vec<u8>, first: u64, replies: &Replies) -> Result<(), NoMemory>
+    requires { first + length replies.now ≤ 2 ^ 64 }
+    ensures ok { IfOk result
+        (λ _. out.new.items ≡ out.old.items ++ print_numbered first replies.now) }
+    ensures err { OnErr result (out.new.items ≡ out.old.items) }
 {
+    let before = out.len();
+    if let Err(refusal) = put_lines(out, first, replies) {
+        out.truncate(before);
+        return Err(refusal);
+    }
+    Ok(())
+}
+
+/// Appends the line `--`, then a line for each key. The time grows with the length of the lines.
+/// An error leaves `out` unchanged.
+pub fn put_store(out: &mut Vec<u8>, entries: &[(Key, Value)]) -> Result<(), NoMemory>
+    ensures ok { IfOk result (λ _. out.new.items ≡ out.old.items ++ print_store entries.now) }
+    ensures err { OnErr result (out.new.items ≡ out.old.items) }
+{
+    let before = out.len();
     out.extend_from_slice(b"--\n")?;
-    put_entries(out, entries)
+    if let Err(refusal) = put_entries(out, entries) {
+        out.truncate(before);
+        return Err(refusal);
+    }
+    Ok(())
 }
 
 /// The length of the longest line of a reply without shows, with a number of ten digits.

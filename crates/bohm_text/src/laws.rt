@@ -9,6 +9,7 @@ ghost use Rattle.bohm_types.specs.Procedure.{Procedure};
 ghost use Rattle.std.specs.Prelude.{ℕ, List, Some};
 ghost use Rattle.bohm_text.specs.Print.{text_of};
 ghost use Rattle.bohm_text.specs.Cut.{whole_lines};
+ghost use Rattle.bohm_text.specs.Faults.{IsFirstBadLine, IsShort};
 ghost use Rattle.bohm_text.specs.ProcedureText.{IsProcedure, print_procedure};
 ghost use Rattle.bohm_text.specs.ProcedureText.{Nothing, Done, stages};
 
@@ -16,6 +17,16 @@ ghost use Rattle.bohm_text.specs.ProcedureText.{Nothing, Done, stages};
 pub fn one_text()
     ensures { (d e : Document) → IsDocument d → IsDocument e
         → print_doc d ≡ print_doc e → d ≡ e }
+{}
+
+/// A text has one verdict: it is a document's, or a line is its first bad one, or it is short.
+pub fn one_verdict()
+    ensures line { (text : List ℕ) (n m : ℕ) → IsFirstBadLine (whole_lines text) n
+        → IsFirstBadLine (whole_lines text) m → n ≡ m }
+    ensures short { (text : List ℕ) (n : ℕ) → IsFirstBadLine (whole_lines text) n
+        → ¬ IsShort text }
+    ensures document { (d : Document) (n : ℕ) → IsDocument d
+        → ¬ IsFirstBadLine (whole_lines (print_doc d)) n }
 {}
 
 /// A document's text ends with a newline. Spaces occur only between two words of a line: no two are

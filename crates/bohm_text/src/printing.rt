@@ -7,7 +7,7 @@ ghost use Rattle.bohm_log.specs.Seeing.{atom_shown, term_shown, cond_shown, guar
 ghost use Rattle.bohm_text.specs.Print.{atom_word, first_word, further_words, sum_words, cmp_word};
 ghost use Rattle.bohm_text.specs.Print.{cond_words};
 ghost use Rattle.bohm_text.specs.Print.{guard_words, stmt_words, store_words, txn_lines, spaced};
-ghost use Rattle.bohm_text.specs.Print.{line_text, lines_text, print_doc};
+ghost use Rattle.bohm_text.specs.Print.{line_text, lines_text, print_doc, BeginsWith};
 
 use bohm_log::{
     AtomParts, CondView, Doc, Keys, LogPart, StmtParts, StmtView, SumView, TermParts, TxnView,
@@ -17,7 +17,8 @@ use itoa::Buffer;
 use std::alloc::Global;
 
 fn put_atom(out: &mut Vec<u8>, atom: AtomParts) -> Result<(), NoMemory>
-    ensures { IfOk result (λ _. out.new.items ≡ out.old.items ++ atom_word (atom_shown atom)) }
+    ensures ok { IfOk result (λ _. out.new.items ≡ out.old.items ++ atom_word (atom_shown atom)) }
+    ensures err { OnErr result (BeginsWith out.old.items out.new.items) }
 {
     match atom {
         AtomParts::Lit(number) => out.extend_from_slice(Buffer::new().format(number).as_bytes())?,
@@ -31,7 +32,8 @@ fn put_atom(out: &mut Vec<u8>, atom: AtomParts) -> Result<(), NoMemory>
 }
 
 fn put_first(out: &mut Vec<u8>, term: TermParts) -> Result<(), NoMemory>
-    ensures { IfOk result (λ _. out.new.items ≡ out.old.items ++ first_word (term_shown term)) }
+    ensures ok { IfOk result (λ _. out.new.items ≡ out.old.items ++ first_word (term_shown term)) }
+    ensures err { OnErr result (BeginsWith out.old.items out.new.items) }
 {
     if term.minus {
         out.push(b'-')?;
@@ -40,16 +42,19 @@ fn put_first(out: &mut Vec<u8>, term: TermParts) -> Result<(), NoMemory>
 }
 
 fn put_further(out: &mut Vec<u8>, term: TermParts) -> Result<(), NoMemory>
-    ensures { IfOk result
+    ensures ok { IfOk result
         (λ _. out.new.items ≡ out.old.items ++ spaced (further_words (term_shown term))) }
+    ensures err { OnErr result (BeginsWith out.old.items out.new.items) }
 {
     out.extend_from_slice(if term.minus { b" - " } else { b" + " })?;
     put_atom(out, term.atom)
 }
 
 /// Appends a sum, with a space before it.
+#[tactic(auto, using(crate::proofs::Printed::begins_behind))]
 fn put_sum(out: &mut Vec<u8>, sum: &SumView<'_>) -> Result<(), NoMemory>
-    ensures { IfOk result (λ _. out.new.items ≡ out.old.items ++ spaced (sum_words sum.now)) }
+    ensures ok { IfOk result (λ _. out.new.items ≡ out.old.items ++ spaced (sum_words sum.now)) }
+    ensures err { OnErr result (BeginsWith out.old.items out.new.items) }
 {
     if sum.len() == 0 {
         return Ok(());
@@ -76,18 +81,21 @@ fn cmp_text(cmp: Cmp) -> &'static [u8]
 
 /// Appends a condition, with a space before it.
 fn put_cond(out: &mut Vec<u8>, cond: &CondView<'_>) -> Result<(), NoMemory>
-    ensures { IfOk result
+    ensures ok { IfOk result
         (λ _. out.new.items ≡ out.old.items ++ spaced (cond_words (cond_shown cond.now))) }
+    ensures err { OnErr result (BeginsWith out.old.items out.new.items) }
 {
     put_sum(out, &cond.left)?;
     out.push(b' ')?;
     out.extend_from_slice(cmp_text(cond.cmp))?;
-    put_sum(out, &cond.right)
+    put_sum(out, &cond.right)?;
+    Ok(())
 }
 
 fn put_guard(out: &mut Vec<u8>, guard: &Option<CondView<'_>>) -> Result<(), NoMemory>
-    ensures { IfOk result
+    ensures ok { IfOk result
         (λ _. out.new.items ≡ out.old.items ++ spaced (guard_words (guard_shown guard.now))) }
+    ensures err { OnErr result (BeginsWith out.old.items out.new.items) }
 {
     if let Some(cond) = guard {
         out.extend_from_slice(b" when")?;
@@ -98,7 +106,8 @@ fn put_guard(out: &mut Vec<u8>, guard: &Option<CondView<'_>>) -> Result<(), NoMe
 
 /// Appends a word and a key.
 fn put_key(out: &mut Vec<u8>, word: &[u8], key: Key) -> Result<(), NoMemory>
-    ensures { IfOk result (λ _. out.new.items ≡ out.old.items ++ word.now ++ key) }
+    ensures ok { IfOk result (λ _. out.new.items ≡ out.old.items ++ word.now ++ key) }
+    ensures err { OnErr result (BeginsWith out.old.items out.new.items) }
 {
     out.extend_from_slice(word)?;
     out.extend_from_slice(key.text().as_slice())?;
@@ -106,8 +115,9 @@ fn put_key(out: &mut Vec<u8>, word: &[u8], key: Key) -> Result<(), NoMemory>
 }
 
 fn put_stmt(out: &mut Vec<u8>, stmt: &StmtView<'_>) -> Result<(), NoMemory>
-    ensures { IfOk result
+    ensures ok { IfOk result
         (λ _. out.new.items ≡ out.old.items ++ line_text (stmt_words stmt.now)) }
+    ensures err { OnErr result (BeginsWith out.old.items out.new.items) }
 {
     match stmt.parts() {
         StmtParts::Bind { name, sum } => {
@@ -151,14 +161,28 @@ fn put_set(out: &mut Vec<u8>, word: &[u8], keys: &Keys<'_>) -> Result<(), NoMemo
     Ok(())
 }
 
-/// Appends a line for each statement of a transaction's body.
-pub fn put_body(out: &mut Vec<u8>, txn: &TxnView<'_>) -> Result<(), NoMemory>
-    ensures { IfOk result
+fn put_stmts(out: &mut Vec<u8>, txn: &TxnView<'_>) -> Result<(), NoMemory>
+    ensures ok { IfOk result
         (λ _. out.new.items ≡ out.old.items ++ lines_text (map stmt_words txn.now.body)) }
+    ensures err { OnErr result (BeginsWith out.old.items out.new.items) }
 {
     for index in 0..txn.body_len() {
         put_stmt(out, &txn.stmt(index))?;
         out.push(b'\n')?;
+    }
+    Ok(())
+}
+
+/// Appends a line for each statement of a transaction's body. An error leaves `out` unchanged.
+pub fn put_body(out: &mut Vec<u8>, txn: &TxnView<'_>) -> Result<(), NoMemory>
+    ensures ok { IfOk result
+        (λ _. out.new.items ≡ out.old.items ++ lines_text (map stmt_words txn.now.body)) }
+    ensures err { OnErr result (out.new.items ≡ out.old.items) }
+{
+    let before = out.len();
+    if let Err(refusal) = put_stmts(out, txn) {
+        out.truncate(before);
+        return Err(refusal);
     }
     Ok(())
 }
@@ -193,16 +217,30 @@ pub fn put_value(out: &mut Vec<u8>, value: Value) -> Result<(), NoMemory>
     Ok(())
 }
 
-/// Appends a line for each key of a store.
-pub fn put_entries(out: &mut Vec<u8>, entries: &[(Key, Value)]) -> Result<(), NoMemory>
-    ensures { IfOk result
+fn put_entry_lines(out: &mut Vec<u8>, entries: &[(Key, Value)]) -> Result<(), NoMemory>
+    ensures ok { IfOk result
         (λ _. out.new.items ≡ out.old.items ++ lines_text (map store_words entries.now)) }
+    ensures err { OnErr result (BeginsWith out.old.items out.new.items) }
 {
     for (key, value) in entries {
         out.extend_from_slice(key.text().as_slice())?;
         out.push(b' ')?;
         put_value(out, *value)?;
         out.push(b'\n')?;
+    }
+    Ok(())
+}
+
+/// Appends a line for each key of a store. An error leaves `out` unchanged.
+pub fn put_entries(out: &mut Vec<u8>, entries: &[(Key, Value)]) -> Result<(), NoMemory>
+    ensures ok { IfOk result
+        (λ _. out.new.items ≡ out.old.items ++ lines_text (map store_words entries.now)) }
+    ensures err { OnErr result (out.new.items ≡ out.old.items) }
+{
+    let before = out.len();
+    if let Err(refusal) = put_entry_lines(out, entries) {
+        out.truncate(before);
+        return Err(refusal);
     }
     Ok(())
 }

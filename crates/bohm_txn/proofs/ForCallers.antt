@@ -29,6 +29,7 @@ pub use Rattle.bohm_txn.proofs.Chunked.{is_none, store_checked, checked_kept, no
 pub use Rattle.bohm_txn.proofs.UseLaws.{few_txns}
 -- the first fault of a document
 pub use Rattle.bohm_txn.proofs.FirstLaw.{well_formed, first_fault}
+pub use Rattle.bohm_txn.proofs.OneFault.{one_first_fault, none_well_formed}
 -- a test that an element at an index passes, and a test that fails
 pub use Rattle.bohm_txn.proofs.UseLaws.{at_some}
 pub use Rattle.bohm_txn.proofs.FirstLaw.{not_true}

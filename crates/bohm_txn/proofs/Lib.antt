@@ -1,5 +1,6 @@
 mod Searches
 mod FirstLaw
+mod OneFault
 mod UseLaws
 mod Rises
 mod Lookups

@@ -6,7 +6,8 @@ ghost use Rattle.bohm_types.specs.Document.{Document};
 ghost use Rattle.bohm_types.specs.Txn.{Txn};
 ghost use Rattle.bohm_types.specs.Keys.{IsAmong, rising};
 ghost use Rattle.bohm_txn.specs.Declares.{IsUsable, shows_in};
-ghost use Rattle.bohm_txn.specs.Faulty.{WellFormed, IsWellFormedTxn};
+ghost use Rattle.bohm_txn.specs.Faulty.{WellFormed, IsFirstFault, IsWellFormedTxn};
+ghost use Rattle.bohm_txn.specs.declared.fault.CheckFault.{CheckFault};
 ghost use Rattle.std.specs.List.{AllByRecursion, slice_get};
 ghost use Rattle.bohm_txn.specs.Meaning.{Look, Run, body};
 ghost use Rattle.bohm_txn.specs.Serial.{writes_of, after, state};
@@ -18,6 +19,12 @@ ghost use Rattle.bohm_txn.specs.Sure.{IsSure};
 /// The transactions of a well-formed document are well formed.
 pub fn log_is_well_formed()
     ensures { (d : Document) → WellFormed d → All IsWellFormedTxn d.log }
+{}
+
+/// A document has at most one first fault, and none if it is well formed.
+pub fn one_first_fault()
+    ensures one { (d : Document) (f g : CheckFault) → IsFirstFault d f → IsFirstFault d g → f ≡ g }
+    ensures none { (d : Document) (f : CheckFault) → WellFormed d → ¬ IsFirstFault d f }
 {}
 
 /// A well-formed transaction keeps the limits, and declares each key that it reads or writes.

@@ -3,7 +3,8 @@ use Rattle.bohm_txn.specs.declared.outcome.Reply.{Reply}
 use Rattle.bohm_txn.specs.ReplyRows.{reply_shown}
 use Rattle.bohm_txn.proofs.ForCallers.{drop_at}
 use Rattle.bohm_text.specs.Print.{line_text, lines_text, print_numbered, reply_lines, reply_words}
-use Rattle.bohm_text.proofs.answers.put_replies.Goals as goal
+use Rattle.bohm_text.proofs.Printed.{begins_more}
+use Rattle.bohm_text.proofs.answers.put_lines.Goals as goal
 
 pub loop-index-preserved : goal.loop-index-preserved
 loop-index-preserved c =
@@ -19,5 +20,8 @@ loop-index-preserved c =
     ∙ ap (λ (r : Reply). out ++ print_numbered t (r ∷ [])) c.parts-outcome.ensures ∙ ap (λ (text : List ℕ). out ++ text) one in
     let rest : lines_text (reply_lines t (drop i rs)) ≡ line ++ lines_text (reply_lines (t + 1) (drop (i + 1) rs)) =
     ap (λ (list : List Reply). lines_text (reply_lines t list)) (drop_at rs i x c.get.ensures) in
-    rw (longer, count) (append_assoc out line (lines_text (reply_lines (t + 1) (drop (i + 1) rs))) ∙ ap (λ (text : List ℕ). out ++ text) (sym rest)
-    ∙ c.loop-index.invariant)
+    record {
+      begins = begins_more c.args.out.now.items out c.put_reply.new.out.items line c.loop-index.invariant.begins longer;
+      text = rw (longer, count) (append_assoc out line (lines_text (reply_lines (t + 1) (drop (i + 1) rs)))
+          ∙ ap (λ (text : List ℕ). out ++ text) (sym rest) ∙ c.loop-index.invariant.text);
+    }
