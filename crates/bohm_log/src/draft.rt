@@ -180,6 +180,14 @@ impl<S: BuildHasher> Draft<S> {
         self.columns.reads.contains(key) || self.columns.writes.contains(key)
     }
 
+    /// How many statements were read. What was read is sound.
+    pub fn body_len(&self) -> usize
+        ensures length { result ≡ length self.now.txn.body }
+        ensures sound { IsTxn self.now.txn.edition self.now.txn }
+    {
+        self.columns.rows.len()
+    }
+
     /// Its edition and its columns.
     pub(crate) fn parts(&self) -> (Edition, &DraftColumns<S>)
         ensures same { txn_of result.0 (parts_of result.1.now) ≡ self.now.txn }

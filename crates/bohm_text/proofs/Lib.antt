@@ -32,4 +32,5 @@ mod ProcedureAgain
 mod ProcedureTakes
 mod ProcedureLines
 mod ProcedureFronts
+mod WholeTxns
 pub mod ForCallers

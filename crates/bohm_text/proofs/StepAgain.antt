@@ -16,6 +16,7 @@ use Rattle.bohm_text.specs.Reading.{keys_of, after}
 use Rattle.bohm_types.specs.Sound.{IsName, IsStmt, IsEntry, IsTxn, IsDocument}
 use Rattle.bohm_text.specs.Step.{Progress, Nothing, Between, Opened, Reading, Body, begun, head_of, with_txn, after_between, after_body, step, steps}
 use Rattle.bohm_text.specs.Front.{text_lines}
+use Rattle.bohm_text.specs.Windows.{with_log}
 use Rattle.bohm_text.proofs.Again.{keys_again, entry_again, stmt_again}
 use Rattle.bohm_text.proofs.Cutting.{split_again}
 use Rattle.bohm_text.proofs.WordLaws.{IsWord, words_lack, stmt_are_words, entry_are_words, names_are_words}
@@ -119,10 +120,7 @@ end_step : (d : Document) (reads writes : List (List ℕ)) (body : List Stmt)
 unfolding step after_body
 end_step d reads writes body = refl
 
-abbrev with_log : Document → List Txn → Document
-with_log d log = record d { log = d.log ++ log }
-
-txn_steps : (d : Document) (t : Txn) (rest : List (List ℕ)) → IsTxn d.edition t
+pub txn_steps : (d : Document) (t : Txn) (rest : List (List ℕ)) → IsTxn d.edition t
     → steps (Between d) (map line_text (txn_lines t) ++ rest) ≡ steps (Between (with_log d (t ∷ []))) rest
 txn_steps d t rest sound =
     let tail : map line_text (map stmt_words t.body ++ (codes "end" ∷ []) ∷ []) ++ rest ≡ map line_text (map stmt_words t.body) ++ (codes "end" ∷ rest) =

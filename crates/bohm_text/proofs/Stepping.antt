@@ -2,6 +2,7 @@
 use Rattle.std.proofs.Common.{◌≡◌, ℕ, zero, suc, false, ◌+◌, ◌-◌, ◌<◌, ◌≤◌, List, [], ◌∷◌, ◌++◌, length}
 use Rattle.std.proofs.Common.{take, Some, None, refl, ap, sym, ◌∙◌, arith, append_assoc, length-append}
 use Rattle.std.specs.Prelude.{Option, ◌==◌}
+use Rattle.std.proofs.lemmas.Grind.{flat_map-append}
 use Rattle.std.proofs.lemmas.List.{take_at, append-nil, nil_from_length}
 use Rattle.bohm_text.specs.Print.{text_of}
 use Rattle.bohm_text.specs.Cut.{whole_lines}
@@ -37,7 +38,7 @@ pub none_after : {S : Type 0} (step : S → List ℕ → Option S) (p : S) (line
     → after_lines step p (lines ++ more) ≡ Some q → ⊥
 none_after {S} step p lines more q none e = let stopped : after_lines step p (lines ++ more) ≡ None = lines-append step p lines more ∙ rw none refl in cc
 
-length-le-text_of : (lines : List (List ℕ)) → length lines ≤ length (text_of lines)
+pub length-le-text_of : (lines : List (List ℕ)) → length lines ≤ length (text_of lines)
 length-le-text_of [] = omega arith
 length-le-text_of (l ∷ ls) = omega (arith, length-le-text_of ls, length-append (l ++ 10 ∷ []) (text_of ls), length-append l (10 ∷ []))
 
@@ -93,6 +94,29 @@ module _ {S : Type 0} {step : S → List ℕ → Option S} {start : S} {text : L
             ap length whole,
           );
         }
+
+  -- several lines at once
+  pub read_lines : (piece : List (List ℕ)) (others : List ℕ) → whole_lines rest ≡ piece ++ whole_lines others → rest ≡ text_of piece ++ others → (q : S)
+      → after_lines step p piece ≡ Some q → IsReadTo step start text (count + length piece) others q
+  read_lines piece others lines bytes q now =
+      let counted : length (so_far.done ++ piece) ≡ count + length piece = omega (arith, length-append so_far.done piece, so_far.counted) in
+      let whole : text_of (so_far.done ++ piece) ++ others ≡ text =
+      ap (λ (xs : List ℕ). xs ++ others) (flat_map-append (λ (line : List ℕ). line ++ 10 ∷ []) so_far.done piece)
+      ∙ (append_assoc (text_of so_far.done) (text_of piece) others ∙ (ap (λ (xs : List ℕ). text_of so_far.done ++ xs) (sym bytes) ∙ so_far.bytes)) in
+      record {
+        done = so_far.done ++ piece;
+        counted = counted;
+        lines = so_far.lines ∙ (ap (λ (ls : List (List ℕ)). so_far.done ++ ls) lines ∙ sym (append_assoc so_far.done piece (whole_lines others)));
+        bytes = whole;
+        read = lines-append step start so_far.done piece ∙ rw so_far.read now;
+        short = omega (
+          arith,
+          counted,
+          length-le-text_of (so_far.done ++ piece),
+          length-append (text_of (so_far.done ++ piece)) others,
+          ap length whole,
+        );
+      }
 
   module _ (last : whole_lines rest ≡ []) where
     all_done : whole_lines text ≡ so_far.done

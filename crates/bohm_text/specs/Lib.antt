@@ -22,3 +22,5 @@ pub mod ProcedureParse
 pub mod ProcedureFaults
 pub mod ProcedureRead
 pub mod Numbered
+pub mod Transactions
+pub mod Pieces

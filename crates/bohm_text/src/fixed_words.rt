@@ -9,7 +9,7 @@ ghost use Rattle.bohm_text.specs.Cut.{split};
 
 /// The rest of the line after `front`, if the line begins with it.
 #[inline(always)]
-fn behind<'a>(front: &[u8], line: &'a [u8]) -> Option<&'a [u8]>
+pub fn behind<'a>(front: &[u8], line: &'a [u8]) -> Option<&'a [u8]>
     ensures some { IfSome result (λ rest. line.now ≡ front.now ++ rest.now) }
     ensures none { IfNone result ((rest : List ℕ) → line.now ≢ front.now ++ rest) }
 {

@@ -18,6 +18,7 @@ mod stops;
 mod sums;
 mod targets;
 mod terms;
+mod transactions;
 mod windows;
 mod words;
 

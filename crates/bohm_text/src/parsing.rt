@@ -30,6 +30,7 @@ pub fn split_line(text: &[u8]) -> Option<(&[u8], &[u8])>
 }
 
 /// Reads lines that follow an edition's head line into an empty log, and counts them.
+#[tactic(auto, using(crate::proofs::WholeTxns::piece_short))]
 pub(crate) fn read_lines(
     alloc: Global,
     seed: HashSeed,
@@ -44,13 +45,14 @@ pub(crate) fn read_lines(
     let mut rest = text;
     let mut count: u64 = 0;
     'lines: while let Some((line, others)) = split_line(rest) {
-        count += 1;
-        match reader.feed(line) {
-            Ok(()) => {}
-            Err(ReadFault::Bad) => return Err(WindowFault::Line(count)),
+        match reader.read_piece(rest, line, others) {
+            Ok((behind, lines)) => {
+                count += lines;
+                rest = behind;
+            }
+            Err(ReadFault::Bad) => return Err(WindowFault::Line(count + 1)),
             Err(ReadFault::NoMemory) => return Err(WindowFault::NoMemory),
         }
-        rest = others;
     }
     match reader.place {
         Place::Between if rest.is_empty() => Ok((reader, count)),

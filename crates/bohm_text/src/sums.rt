@@ -91,7 +91,7 @@ fn take_other(draft: &mut Draft<HashSeed>, minus: bool, word: &[u8]) -> Result<(
 /// Adds the term of a word whose sign was read. A declared read that is where the cache last found
 /// it is compared in place.
 #[inline(always)]
-fn take_term(
+pub(crate) fn take_term(
     draft: &mut Draft<HashSeed>,
     minus: bool,
     word: &PackedWord<'_>,
@@ -106,7 +106,10 @@ fn take_term(
 
 /// Adds the first term, whose sign is part of the word.
 #[tactic(auto, unfolding(crate::specs::Reading::first_of, crate::specs::Reading::further_of))]
-fn take_first(draft: &mut Draft<HashSeed>, word: &PackedWord<'_>) -> Result<(), ReadFault>
+pub(crate) fn take_first(
+    draft: &mut Draft<HashSeed>,
+    word: &PackedWord<'_>,
+) -> Result<(), ReadFault>
     ensures { Takes result (first_of word.now) (with_one draft.old) draft.new }
 {
     match word.bytes() {

@@ -1,8 +1,10 @@
-use Rattle.std.proofs.Common.{◌∷◌, length, refl, ap, sym, ◌∙◌, arith, length-append}
+use Rattle.std.proofs.Common.{ℕ, ◌+◌, ◌∷◌, length, refl, ap, sym, subst, ◌∙◌, arith, length-append}
 use Rattle.std.proofs.lemmas.Bool.{eqb-true}
-use Rattle.bohm_text.specs.Step.{Between, document_in, progress_of}
+use Rattle.bohm_text.specs.Step.{Nothing, Between, document_in, progress_of, step}
+use Rattle.bohm_text.specs.Windows.{headed}
 use Rattle.bohm_text.proofs.Lines.{between_place}
-use Rattle.bohm_text.proofs.Stepping.{line_fault, read_more, some_left, all_read, left_open, rest_left, whole_text, count_all}
+use Rattle.bohm_text.proofs.Stepping.{IsReadTo, line_fault, some_left, all_read, left_open, rest_left, whole_text, count_all}
+use Rattle.bohm_text.proofs.WholeTxns.{piece_more, piece_short}
 use Rattle.bohm_text.proofs.Headed.{read_head, lines_behind}
 use Rattle.bohm_text.proofs.parsing.read_lines.Goals as goal
 use Rattle.bohm_text.proofs.parsing.read_lines.Goals.{in_default-place-via-in-Between+else-is_empty, in_default-place-via-in_default-place}
@@ -16,16 +18,24 @@ lines-init c = record {
 
 pub returns-in-Err-Bad : goal.returns-in-Err-Bad
 returns-in-Err-Bad c = (
-  line_fault c.lines.invariant.so_far c.in-Some.line.now c.in-Some.others.now c.in-Some.ensures.lines (rw c.in-Err-Bad.field-0-is at c.in-Err-Bad.ensures.next),
+  line_fault c.lines.invariant.so_far c.in-Some.line.now c.in-Some.others.now c.in-Some.ensures.lines
+      (rw c.in-Err-Bad.field-0-is at c.in-Err-Bad.ensures.fault),
   omega (arith, c.lines.invariant.short, ap length c.in-Some.ensures.bytes, length-append c.in-Some.line.now (10 ∷ c.in-Some.others.now)),
 )
 
 pub lines-preserved : goal.lines-preserved
 lines-preserved c = record {
-  so_far = read_more c.lines.invariant.so_far c.in-Some.line.now c.in-Some.others.now c.in-Some.ensures.lines c.in-Some.ensures.bytes
-      (progress_of c.feed.new.self) c.in-Ok.ensures.next;
+  so_far = subst (λ (n : ℕ). IsReadTo step Nothing (headed c.args.edition c.args.text.now) n c.in-Ok.behind.now (progress_of c.read_piece.new.self))
+      (omega arith)
+      (piece_more Nothing (headed c.args.edition c.args.text.now) c.lines.rest.now c.in-Ok.behind.now (c.lines.count + 1) c.in-Ok.lines
+      (progress_of c.lines.reader) (progress_of c.read_piece.new.self) c.lines.invariant.so_far c.in-Ok.ensures.read);
   ready = c.in-Ok.ensures.ready;
-  short = omega (arith, c.lines.invariant.short, ap length c.in-Some.ensures.bytes, length-append c.in-Some.line.now (10 ∷ c.in-Some.others.now));
+  short = omega (
+    arith,
+    c.lines.invariant.short,
+    piece_short c.lines.rest.now c.in-Ok.behind.now c.in-Ok.lines (progress_of c.lines.reader)
+        (progress_of c.read_piece.new.self) c.in-Ok.ensures.read,
+  );
 }
 
 pub returns-in-Between : goal.returns-in-Between
