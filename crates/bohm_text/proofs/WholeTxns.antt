@@ -1,7 +1,8 @@
 -- Transactions that are read straight from their text.
-use Rattle.std.proofs.Common.{◌≡◌, ℕ, ◌+◌, ◌-◌, ◌<◌, ◌≤◌, Bool, true, false, List, [], ◌∷◌, ◌++◌, map, length, take, drop, Some, None, refl, ap, sym, subst, ◌∙◌, arith}
+use Rattle.std.proofs.Common.{◌≡◌, ℕ, ◌+◌, ◌-◌, ◌<◌, ◌≤◌, Bool, true, false, List, [], ◌∷◌, ◌++◌, map, length, take, drop, Some, None}
+use Rattle.std.proofs.Common.{refl, ap, sym, subst, ◌∙◌, arith}
 use Rattle.std.proofs.Common.{append_assoc, length-append}
-use Rattle.std.specs.Prelude.{Option, codes, cond, if◌then◌else◌}
+use Rattle.std.specs.Prelude.{codes, if◌then◌else◌}
 use Rattle.std.specs.Option.{option_map}
 use Rattle.std.specs.List.{flat_map, AllByRecursion}
 use Rattle.std.proofs.lemmas.Grind.{flat_map-append}
@@ -10,10 +11,10 @@ use Rattle.bohm_types.specs.Document.{Document}
 use Rattle.bohm_types.specs.Name.{key_of}
 use Rattle.bohm_types.specs.Term.{Atom}
 use Rattle.bohm_types.specs.Txn.{Txn}
-use Rattle.bohm_types.specs.Stmt.{Cond, Stmt, Bind, Need, Put, Show}
+use Rattle.bohm_types.specs.Stmt.{Stmt, Bind, Need, Put, Show}
 use Rattle.bohm_types.specs.declared.cmp.Cmp.{Cmp}
 use Rattle.bohm_types.specs.declared.edition.Edition.{Edition}
-use Rattle.bohm_types.specs.Sound.{IsTxn, IsDocument}
+use Rattle.bohm_types.specs.Sound.{IsTxn}
 use Rattle.bohm_log.specs.Drafting.{Drafted, IsBare, IsBetween, fresh, need_of, put_of, with_read, with_stmt, with_sum, with_write}
 use Rattle.bohm_text.specs.Cut.{split, whole_lines}
 use Rattle.bohm_text.specs.Print.{Words, atom_word, cmp_word, cond_words, first_word, further_words, guard_words, line_text, lines_text, spaced, stmt_words}
@@ -24,7 +25,8 @@ use Rattle.bohm_text.specs.declared.reader.Place.{Place}
 use Rattle.bohm_text.specs.declared.reader.Place.TheVariants as places
 use Rattle.bohm_text.specs.Windows.{segment, with_log}
 use Rattle.bohm_text.specs.Taking.{with_cond, with_one, with_terms}
-use Rattle.bohm_text.specs.Transactions.{AssignedRead, FirstRead, TermRead, SumRead, CondRead, StmtRead, StmtsRead, BodyRead, declared, further_sign, with_stmts}
+use Rattle.bohm_text.specs.Transactions.{AssignedRead, FirstRead, TermRead, SumRead, CondRead, StmtRead, StmtsRead, BodyRead, declared}
+use Rattle.bohm_text.specs.Transactions.{further_sign}
 use Rattle.bohm_text.specs.Pieces.{PieceRead}
 use Rattle.bohm_text.proofs.Cutting.{IsWithout}
 use Rattle.bohm_text.proofs.Printed.{spaced_append, lines_append}
@@ -46,7 +48,8 @@ behind_drop n text = take_all (length text - n) (drop n text) (omega (arith, len
 
 -- a text's first word and the rest
 pub parted : (n : ℕ) (text word : List ℕ) → word ≡ take n text → text ≡ word ++ behind n text
-parted n text word first = sym (ap (λ (w : List ℕ). w ++ behind n text) first ∙ ap (λ (r : List ℕ). take n text ++ r) (behind_drop n text) ∙ take-append-drop n text)
+parted n text word first =
+    sym (ap (λ (w : List ℕ). w ++ behind n text) first ∙ ap (λ (r : List ℕ). take n text ++ r) (behind_drop n text) ∙ take-append-drop n text)
 
 -- after a space and a word less is left
 pub shorter : (n : ℕ) (rest front : List ℕ) → rest ≡ 32 ∷ front → length (behind n front) < length rest
@@ -330,7 +333,8 @@ stmts_more text rest others before mid now so_far read = record {
 }
 
 -- the end of the transaction
-pub body_ended : (text rest left : List ℕ) (before now : Drafted) → StmtsRead text rest before now → rest ≡ codes "end\n" ++ left → BodyRead text left before now
+pub body_ended : (text rest left : List ℕ) (before now : Drafted) → StmtsRead text rest before now → rest ≡ codes "end\n" ++ left
+    → BodyRead text left before now
 body_ended text rest left before now so_far ended = record {
   stmts = so_far.stmts;
   added = so_far.added;

@@ -1,10 +1,9 @@
 -- What is read of a transaction straight from its text: what was added to the draft, and which bytes are its print.
-use Rattle.std.specs.Prelude.{◌≡◌, ℕ, List, [], ◌∷◌, ◌++◌, ◌<◌, map, length, Bool, codes, if◌then◌else◌}
+use Rattle.std.specs.Prelude.{◌≡◌, ℕ, List, [], ◌∷◌, ◌++◌, map, Bool, Option, codes, if◌then◌else◌}
 use Rattle.bohm_types.specs.Term.{Atom}
 use Rattle.bohm_types.specs.Stmt.{Cond, Stmt, Put}
 use Rattle.bohm_types.specs.declared.cmp.Cmp.{Cmp}
 use Rattle.bohm_types.specs.declared.edition.Edition.{Edition}
-use Rattle.std.specs.Prelude.{Option}
 use Rattle.bohm_log.specs.Drafting.{Drafted, with_stmt}
 use Rattle.bohm_text.specs.Print.{Words, atom_word, cond_words, first_word, guard_words, lines_text, line_text, spaced, stmt_words, sum_words}
 use Rattle.bohm_text.specs.Taking.{with_cond, with_one, with_terms}

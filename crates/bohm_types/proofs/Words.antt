@@ -211,6 +211,12 @@ one_word name a h e =
     let none : [] ≡ drop 8 name = sym (drop_all 8 name h) in
     four_words name [] [] [] a 0 0 0 none refl refl e refl refl refl
 
+pub two_words : (name second : List ℕ) (a b : ℕ) → second ≡ drop 8 name → length second ≤ 8 → a ≡ from_be_bytes w64 (padded 8 name)
+    → b ≡ from_be_bytes w64 (padded 8 second) → a ∷ b ∷ 0 ∷ 0 ∷ [] ≡ words_of name
+two_words name second a b behind few first next =
+    let none : [] ≡ drop 8 second = sym (drop_all 8 second few) in
+    four_words name second [] [] a b 0 0 behind none refl first next refl refl
+
 pub new_name : (name ws : List ℕ) → true ≡ is_name name → ws ≡ words_of name → Some (name_of (record { words = ws })) ≡ key_of name
 unfolding name_of
 new_name name ws e made = rw (sym e) (ap Some (named ws name (short name (sym e)) made))

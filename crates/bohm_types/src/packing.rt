@@ -55,10 +55,9 @@ fn further_word(bytes: &[u8]) -> u64
     first_word(bytes)
 }
 
-/// The words of a name of more than 8 bytes. They are returned one by one, so that short names
-/// don't go through memory.
-#[inline(always)]
-pub(crate) fn long_words_of(name: &[u8]) -> [u64; 4]
+/// The words of a name of more than 16 bytes. Few names are this long, so it isn't inlined.
+#[inline(never)]
+fn longest_words_of(name: &[u8]) -> [u64; 4]
     ensures { result ≡ words_of name.now }
 {
     let second = behind(name);
@@ -70,6 +69,20 @@ pub(crate) fn long_words_of(name: &[u8]) -> [u64; 4]
         further_word(third),
         further_word(fourth),
     ]
+}
+
+/// The words of a name of more than 8 bytes. They are returned one by one, so that short names
+/// don't go through memory.
+#[inline(always)]
+#[tactic(auto, using(crate::proofs::Words::two_words))]
+pub(crate) fn long_words_of(name: &[u8]) -> [u64; 4]
+    ensures { result ≡ words_of name.now }
+{
+    let second = behind(name);
+    if second.len() <= 8 {
+        return [first_word(name), first_word(second), 0, 0];
+    }
+    longest_words_of(name)
 }
 
 /// The bytes of four words.

@@ -1,4 +1,3 @@
-use Rattle.std.proofs.Common.{sym, ◌∙◌}
 use Rattle.std.proofs.lemmas.Option.{IfSome_then}
 use Rattle.bohm_text.specs.Targets.{name_in}
 use Rattle.bohm_text.proofs.WholeTxns.{set_read}

@@ -1,5 +1,5 @@
 use Rattle.bohm_types.proofs.Words.{four_words}
-use Rattle.bohm_types.proofs.packing.long_words_of.Goals as goal
+use Rattle.bohm_types.proofs.packing.longest_words_of.Goals as goal
 
 pub returns : goal.returns
 returns c =
