@@ -245,7 +245,8 @@ class Procedure:
         return Call(self, filled[:count], filled[count:])
 
     def __call__(self, /, *given: Any, **named: Any) -> Reply:
-        reply: Reply = self.machine.run((self.call(*given, **named),))[0]
+        machine: Machine = self.machine
+        reply: Reply = machine._returned(machine._run_calls((self.call(*given, **named),)), lambda replies: replies[0])
         return reply
 
     @property
@@ -408,12 +409,12 @@ class Machine:
             raise
         return chunks
 
-    def _returned(self, chunks: _Chunks) -> Any:
-        """Replies, which aren't pending any more."""
-        replies = _replies(chunks)
+    def _returned(self, chunks: _Chunks, part: Callable[[Any], Any] = lambda replies: replies) -> Any:
+        """Replies, or the part of them that is wanted, which aren't pending any more."""
         try:
+            wanted = part(_replies(chunks))
             self._pending.pop(id(chunks), None)
-            return replies
+            return wanted
         except BaseException as error:
             self._end_early(chunks, error)
             raise
@@ -457,7 +458,9 @@ class Machine:
 
     def run(self, calls: Iterable[Call]) -> Any:
         """Runs calls."""
-        wanted = tuple(calls)
+        return self._returned(self._run_calls(tuple(calls)))
+
+    def _run_calls(self, wanted: Tuple[Call, ...]) -> _Chunks:
         for place, call in enumerate(wanted):
             if not isinstance(call, Call):
                 raise TypeError(f"call {place}: {call!r} is not a Call")
@@ -471,8 +474,7 @@ class Machine:
                 raise ClosedError("the procedure is closed" if len(wanted) == 1 else f"call {closed}: the procedure is closed")
             self._set_aside()
             self._check_room(len(wanted))
-            chunks = self._run_batches(self._call_batches(wanted))
-        return self._returned(chunks)
+            return self._run_batches(self._call_batches(wanted))
 
     def _column(self, name: str, column: Any, is_key: bool) -> List[int]:
         try:

@@ -79,10 +79,12 @@ class Machine(_core.Machine):
         handles and of whole numbers; or lists of keys and of ints."""
         if procedure.machine is not self:
             raise ValueError("the procedure belongs to another machine")
-        names = procedure.parameters
-        count = len(procedure.keys)
-        return self._run_columns(procedure, tuple(
-            self._buffer(names[place] if place < len(names) else "", column, place < count) for place, column in enumerate(columns)))
+        if len(columns) != len(procedure.parameters):
+            raise TypeError(f"{len(procedure.parameters)} columns expected, {len(columns)} given")
+        buffers: List[Any] = []
+        for name, column in zip(procedure.parameters, columns):
+            buffers.append(self._buffer(name, column, len(buffers) < len(procedure.keys)))
+        return self._run_columns(procedure, tuple(buffers))
 
     def _buffer(self, name: str, column: Any, is_key: bool) -> Any:
         """A column as a buffer."""

@@ -1,0 +1,91 @@
+"""The Python package where allocations fail, its own and the library's: `refusals.py LIBRARY STEPS`, with tests/refusals.c
+preloaded, PYTHONMALLOC=malloc, and the package on the path. Each of the first STEPS allocations of each call fails in turn, and then
+some later ones. Nothing is lost or done twice: the replies that are returned, raised or pending
+are those of the transactions that ran, and the next call works."""
+import ctypes
+import sys
+from array import array
+
+import bohm
+
+LIBRARY, STEPS = bohm.load(sys.argv[1]), int(sys.argv[2])
+SWITCH = ctypes.CDLL(None)
+MANY = 4096 + 40
+ADD = "procedure 2\nkey k\nvalue n\nreads k\nwrites k\nset k = k + $n\nshow k\nend\n"
+TEXT = "log 2\n" + "txn\nreads a\nwrites a\nset a = a + 1\nshow a\nend\n" * MANY
+
+
+class Trial:
+    """A machine whose key `a` counts the transactions that ran."""
+
+    def __init__(self):
+        self.machine = bohm.Machine("log 2\na 0\n", library=LIBRARY)
+        self.add = self.machine.prepare(ADD)
+        self.key = self.machine.key("a")
+        self.calls = [self.add.call(self.key, 1)] * MANY
+        self.names = [self.add.call("a", 1)] * MANY
+        self.columns = array("I", [self.key.handle]) * MANY, array("q", [1]) * MANY
+
+
+WORKS = {
+    "call by key": lambda trial: trial.add(trial.key, 1),
+    "call by name": lambda trial: trial.add(k="a", n=1),
+    "two calls": lambda trial: trial.machine.run(trial.calls[:2]),
+    "many calls": lambda trial: trial.machine.run(trial.calls),
+    "many calls by names": lambda trial: trial.machine.run(trial.names),
+    "columns": lambda trial: trial.machine.run_many(trial.add, *trial.columns),
+    "segment": lambda trial: trial.machine.apply(TEXT),
+    "replies": lambda trial: trial.machine.replies(),
+    "key": lambda trial: trial.machine.key("b").handle,
+    "making a call": lambda trial: trial.add.call("b", 1).keys,
+    "reading": lambda trial: trial.machine["a"] is trial.machine.value_at("a") is trial.machine.digest(),
+    "snapshot": lambda trial: bohm.Machine(trial.machine.snapshot(), library=LIBRARY).top,
+    # Not by `prepare`, whose closures crash CPython 3.12 and 3.13 if they can't be allocated.
+    "preparing": lambda trial: bohm._core.Procedure()._prepare(trial.machine, ADD.encode()),
+}
+# By ctypes these take too long to be tried hundreds of times.
+LONG_WORKS = ("many calls", "many calls by names", "columns", "segment")
+
+
+def tried(name, work, count):
+    """Runs work with an allocation refused. Returns whether there were no more allocations than that."""
+    trial = Trial()
+    machine, told, error = trial.machine, None, None
+    SWITCH.refuse_after(count)
+    try:
+        told = work(trial)
+    except MemoryError as raised:
+        error = raised
+    except (SystemError, RuntimeError, ctypes.ArgumentError) as raised:
+        # CPython itself and ctypes report some refused allocations like this.
+        assert not isinstance(raised, bohm.BohmError), (name, count, repr(raised))
+        error = raised
+    over = SWITCH.accept_all()
+    returned = [told] if isinstance(told, bohm.Reply) else told if isinstance(told, bohm.Replies) else []
+    replies = [*returned, *getattr(error, "replies", ()), *machine.replies()]
+    top = machine.top
+    where = (name, count, repr(error))
+    assert machine["a"] == top, where
+    assert [reply.timestamp for reply in replies] == list(range(1, top + 1)), (*where, len(replies), top)
+    assert [reply.shows for reply in replies] == [(number,) for number in range(1, top + 1)], where
+    assert error is None or top in (0, 1, 2, 4096, MANY), (*where, top)
+    assert str(trial.add(trial.key, 1)) == f"{top + 1} commit {top + 1}", where
+    more = len(machine.run(trial.calls if bohm.NATIVE else trial.calls[:3]))
+    assert machine["a"] == machine.top == top + 1 + more, where
+    return over
+
+
+def main():
+    failed = 0
+    for name, work in WORKS.items():
+        if name in LONG_WORKS and not bohm.NATIVE:
+            continue
+        count, step = 0, 1
+        while not tried(name, work, count):
+            failed += 1
+            step += count >= STEPS
+            count += step
+    print(f"refused allocations: {failed}, {'under the extension' if bohm.NATIVE else 'under ctypes'}: as it should be")
+
+
+main()
