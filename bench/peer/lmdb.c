@@ -1,4 +1,5 @@
-/* LMDB in memory, not written to a disk: the transfers of a call in one write transaction. */
+/* LMDB in memory, not written to a disk: the transfers of a call in one write transaction. With DURABLE defined, each is
+ * synchronised. */
 #include "peer.h"
 
 #include <lmdb.h>
@@ -26,7 +27,11 @@ static long long get(const char *key) {
 void peer_open(void) {
     checked(mdb_env_create(&base));
     checked(mdb_env_set_mapsize(base, (size_t)1 << 30));
+#ifdef DURABLE
+    checked(mdb_env_open(base, new_directory(), 0, 0600));
+#else
     checked(mdb_env_open(base, new_directory(), MDB_NOSYNC | MDB_WRITEMAP, 0600));
+#endif
     checked(mdb_txn_begin(base, NULL, 0, &txn));
     checked(mdb_dbi_open(txn, NULL, 0, &accounts));
 }

@@ -10,7 +10,7 @@
 #include <time.h>
 #include <unistd.h>
 
-static char directory[64];
+static char directory[512];
 
 void check(int is_so, const char *what) {
     if (is_so) return;
@@ -19,7 +19,13 @@ void check(int is_so, const char *what) {
 }
 
 const char *new_directory(void) {
+#ifdef DURABLE
+    const char *within = getenv("PEER_FOLDER");
+    check(within && strlen(within) < sizeof directory - 16, "PEER_FOLDER names no folder");
+    sprintf(directory, "%s/peer.XXXXXX", within);
+#else
     strcpy(directory, access("/dev/shm", W_OK) ? "/tmp/peer.XXXXXX" : "/dev/shm/peer.XXXXXX");
+#endif
     check(mkdtemp(directory) != NULL, "no directory");
     return directory;
 }

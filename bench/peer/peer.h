@@ -31,7 +31,7 @@ void peer_close(void);
 /* Ends the process if the condition is false. */
 void check(int is_so, const char *what);
 
-/* Creates a directory, on an in-memory file system if there is one. */
+/* Creates a directory, on an in-memory file system if there is one; with DURABLE defined, in the folder PEER_FOLDER. */
 const char *new_directory(void);
 
 /* Removes that directory and the files in it. */

@@ -1,4 +1,5 @@
-/* RocksDB's pessimistic transactions, on files in memory and without its write-ahead log. */
+/* RocksDB's pessimistic transactions, on files in memory and without its write-ahead log; with DURABLE defined, on a disk,
+ * with a log that each commit synchronises. */
 #include "peer.h"
 
 #include <rocksdb/c.h>
@@ -43,7 +44,11 @@ void peer_open(void) {
     base = rocksdb_transactiondb_open(made, rocksdb_transactiondb_options_create(), new_directory(), &error);
     checked();
     writes = rocksdb_writeoptions_create();
+#ifdef DURABLE
+    rocksdb_writeoptions_set_sync(writes, 1);
+#else
     rocksdb_writeoptions_disable_WAL(writes, 1);
+#endif
     reads = rocksdb_readoptions_create();
     options = rocksdb_transaction_options_create();
     begin();

@@ -1,7 +1,8 @@
-/* SQLite in memory, by prepared statements. */
+/* SQLite in memory, by prepared statements; with DURABLE defined, in a file, where each commit is synchronised. */
 #include "peer.h"
 
 #include <sqlite3.h>
+#include <stdio.h>
 
 static sqlite3 *base;
 static sqlite3_stmt *begin, *commit, *insert, *take, *give;
@@ -26,7 +27,14 @@ static void change(sqlite3_stmt *statement, const char *key, long long amount) {
 }
 
 void peer_open(void) {
+#ifdef DURABLE
+    char path[600];
+    snprintf(path, sizeof path, "%s/base", new_directory());
+    checked(sqlite3_open(path, &base), SQLITE_OK);
+    checked(sqlite3_exec(base, "pragma journal_mode = wal; pragma synchronous = full", NULL, NULL, NULL), SQLITE_OK);
+#else
     checked(sqlite3_open(":memory:", &base), SQLITE_OK);
+#endif
     run(prepared("create table account (key text primary key, balance integer not null) without rowid"));
     begin = prepared("begin");
     commit = prepared("commit");
@@ -56,4 +64,8 @@ void peer_each(void (*tell)(const char *key, size_t size, long long balance)) {
         tell((const char *)sqlite3_column_text(all, 0), (size_t)sqlite3_column_bytes(all, 0), sqlite3_column_int64(all, 1));
 }
 
-void peer_close(void) {}
+void peer_close(void) {
+#ifdef DURABLE
+    remove_directory();
+#endif
+}

@@ -113,6 +113,9 @@ def check(path, acknowledged, program):
         copy = copied(Path(path), folder)
         sound = subprocess.run(["sqlite3", copy, "PRAGMA integrity_check"], capture_output=True, text=True)
         need(sound.stdout == "ok\n", f"sqlite3 says {sound.stdout}{sound.stderr}")
+        if not rows_of(copy, "SELECT name FROM sqlite_master"):
+            need(not acknowledged, "the tables are gone")
+            return 0
         past = Past(batches_of(copy), program)
         stored = {name: (place, answer) for name, place, answer in rows_of(copy, "SELECT * FROM request")}
         need(stored == {name: (past.places[name], answer) for name, answer in past.ids.items()}, "the table request differs")
