@@ -149,7 +149,7 @@ def sum_of(word: str) -> str:
 class Form:
     """What a procedure's accepted text says of its calls: their arguments, and their instances."""
 
-    def __init__(self, text: str) -> None:
+    def __init__(self, name: str, text: str) -> None:
         self.text = text
         lines = text.splitlines()
         sets = next(number for number, line in enumerate(lines) if line.split(" ")[0] == "reads")
@@ -160,8 +160,13 @@ class Form:
         # The sets' keys by their places among the arguments and, behind those, the keys that are no parameters.
         self.fixed: List[str] = []
         self.reads, self.writes = ([*map(self.placed, line.split(" ")[1:])] for line in lines[sets:sets + 2])
+        # Lines with a slot for each argument, and the places of these arguments.
         slots = [f"let ${value} = {{{place}}}" for place, value in enumerate(self.values, len(self.keys))]
-        self.body = "".join(f"{line}\n" for line in [*slots, *map(self.slotted, lines[sets + 2:])])
+        body = "".join(f"{line}\n" for line in [*slots, *map(self.slotted, lines[sets + 2:])])
+        self.body = re.sub(r"\{\d+\}", "%s", body)
+        self.slots = [int(place) for place in re.findall(r"\{(\d+)\}", body)]
+        words = [f"({NAME})"] * len(self.keys) + [f"({NUMBER})"] * len(self.values)
+        self.calls = re.compile(" ".join(["^call(?: #([!-~]{1,64}))?", name, *words]) + "$", re.MULTILINE)
 
     def placed(self, name: str) -> int:
         if name in self.keys:
@@ -199,7 +204,18 @@ class Form:
     def instance(self, arguments: Sequence[str]) -> str:
         """The transaction that an accepted call stands for."""
         named = [*arguments, *self.fixed]
-        reads = " ".join(["", *sorted({named[place] for place in self.reads})])
-        writes = reads if self.reads == self.writes else " ".join(["", *sorted({named[place] for place in self.writes})])
-        words = [*map(sum_of, arguments)] if LEAST_WORD in arguments else arguments
-        return f"txn\nreads{reads}\nwrites{writes}\n{self.body.format(*words)}"
+        reads = " ".join(["", *sorted({*map(named.__getitem__, self.reads)})])
+        writes = reads if self.reads == self.writes else " ".join(["", *sorted({*map(named.__getitem__, self.writes)})])
+        if LEAST_WORD in arguments:
+            named = [*map(sum_of, arguments)]
+        return f"txn\nreads{reads}\nwrites{writes}\n{self.body % (*map(named.__getitem__, self.slots),)}"
+
+    def rows(self, texts: Sequence[str]) -> Optional[List[Tuple[str, ...]]]:
+        """The ids, or empty, and the arguments of texts that all are accepted calls of the procedure; none if they aren't, or if
+        a value has more than 18 digits."""
+        joined = "".join(texts)
+        found: List[Tuple[str, ...]] = self.calls.findall(joined)
+        if not len(found) == len(texts) == joined.count("\n") or not self.count:
+            return None
+        values = [*zip(*found)][1 + len(self.keys):]
+        return found if all(len(word) < 19 for column in values for word in column) else None

@@ -17,7 +17,15 @@ class First(NamedTuple):
 def commit(file: LedgerFile, state: State, texts: Sequence[str]) -> List[Answer]:
     """Runs entries and stores them; their answers are those of the file from then on. After an exception the state may be
     ahead of the file."""
-    first, under_way = state.top + 1, Commit(file, state, texts)
+    first = state.top + 1
+    alike = state.alike(texts) if len(texts) > 1 else None
+    if alike:
+        ids = [*filter(None, alike.ids)]
+        if len({*ids}) == len(ids) and not (ids and file.requests(ids)):
+            replies = [*state.replies(alike.texts)]
+            file.commit(first, "".join(texts), [(request, str(reply)) for request, reply in zip(alike.ids, replies) if request])
+            return [*replies]
+    under_way = Commit(file, state, texts)
     under_way.take_all()
     if under_way.accepted:
         file.commit(first, "".join(under_way.accepted), under_way.requests)

@@ -33,6 +33,13 @@ def answer_of(line: str) -> Answer:
     return Defined(line[len("defined "):]) if line.startswith("defined ") else reply_of(line)
 
 
+class Alike(NamedTuple):
+    """Calls of one procedure: their ids, or empty texts, and the transactions that they stand for."""
+
+    ids: List[str]
+    texts: List[str]
+
+
 class Prepared(NamedTuple):
     """A procedure that a machine has prepared, and its text's form."""
 
@@ -87,6 +94,16 @@ class State:
         replies = self.replies(texts)
         return [next(replies) if answer is None else answer for answer in answers]
 
+    def alike(self, texts: Sequence[str]) -> Optional[Alike]:
+        """The texts as calls of one procedure that are all accepted, which takes a third of the time; none if they aren't that."""
+        words = texts[0].split(" ", 3)
+        name = words[2] if words[1:] and words[1][0:1] == "#" and words[2:] else words[-1 if len(words) < 2 else 1]
+        prepared = self.procedures.get(name)
+        rows = prepared.form.rows(texts) if prepared and words[0] == "call" else None
+        if prepared is None or rows is None:
+            return None
+        return Alike([row[0] for row in rows], [prepared.form.instance(row[1:]) for row in rows])
+
     def instance(self, call: Call) -> Union[str, Refused]:
         """The transaction that a call stands for."""
         prepared = self.procedures.get(call.name)
@@ -112,7 +129,7 @@ class State:
             return fault_of("", text, behind)
         if is_barred:
             return entries.TAKEN
-        self.procedures[definition.name] = Prepared(Form(text), procedure)
+        self.procedures[definition.name] = Prepared(Form(definition.name, text), procedure)
         return Defined(definition.name)
 
     def replies(self, texts: Sequence[str]) -> Iterator[Union[Reply, Refused]]:
