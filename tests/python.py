@@ -392,7 +392,14 @@ class Habits(unittest.TestCase):
                 machine.prepare(text)
         with self.assertRaises(bohm.RefusedError) as caught:
             machine.prepare(TRANSFER.replace("need $amount", "nedd $amount"))
-        self.assertIn("line 7", str(caught.exception))
+        self.assertEqual((caught.exception.line, str(caught.exception)), ("refused: line 7", "refused: line 7: nedd $amount > 0"))
+        for old, new, told in (("reads from to", "reads to from", "check order 1 0: to from: the names of a set rise"),
+                               ("show to", "show fees", "check unread 1 7: show fees"), ("show to\n", "set fees = 1\n", "check unwritten 1 7: set fees = 1"),
+                               ("show to", "let $amount = 1", "check local 1 7: let $amount = 1"), ("    end\n", "", "short"),
+                               ("    key to\n", "    key from\n", "line 3: key from"), ("show to\n", "fail\n" * 65, "check limit 1 0")):
+            with self.assertRaises(bohm.RefusedError) as caught:
+                machine.prepare(TRANSFER.replace(old, new).replace("    ", ""))
+            self.assertEqual(str(caught.exception), "refused: " + told)
 
     def test_statements(self):
         machine = opened("alice 100\nbob 20\n")

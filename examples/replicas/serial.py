@@ -20,7 +20,8 @@ OPENING = re.compile(rb"set (\w+) = (\d+)\n")
 
 
 def instance(text: bytes, arguments: list[bytes]) -> bytes:
-    """The transaction that a call of a procedure represents, behind a line `log 2` if it is of edition 2. No parameter of the procedure may be a statement's word."""
+    """The transaction that a call of a procedure represents, behind a line `log 2` if it is of edition 2. No parameter of the
+    procedure may be a statement's word."""
     head = SECOND if text.startswith(b"procedure 2\n") else b""
     lines = [line.split(b" ") for line in text.splitlines()[1:-1]]
     names = [line[1] for line in lines if line[0] in (b"key", b"value")]

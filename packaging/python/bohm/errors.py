@@ -36,14 +36,14 @@ class BohmError(Exception):
 
 
 class RefusedError(BohmError, ValueError):
-    """A text was refused. `line` says why, as `refused: line 3`."""
+    """A text was refused. `line` says why, as `refused: line 3`; of a procedure the exception's text has the place, too."""
 
     status = Status.REFUSED
     why = "the text was refused"
 
-    def __init__(self, line: str = "") -> None:
+    def __init__(self, line: str = "", place: str = "") -> None:
         self.line = line
-        super().__init__(line)
+        super().__init__(f"{line}: {place}" if place else line)
 
 
 class OutOfMemoryError(BohmError, MemoryError):

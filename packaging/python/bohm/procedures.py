@@ -4,6 +4,7 @@ import textwrap
 from typing import TYPE_CHECKING, Any, List, Mapping, NoReturn, Optional, Tuple
 
 from . import _core
+from .errors import RefusedError
 from .library import Text, octets
 
 if TYPE_CHECKING:
@@ -26,6 +27,28 @@ def _named(lines: List[List[str]], kind: str) -> Tuple[str, ...]:
     return tuple(words[1] for words in lines[1:head] if words[0] == kind)
 
 
+def _statements(text: str) -> List[str]:
+    """The statements as replies count them: each value's `let`, then the lines between `writes` and `end`."""
+    lines = text.splitlines()
+    body = next(at for at, line in enumerate(lines) if line.split(" ")[0] == "writes") + 1
+    words = [line.split(" ") for line in lines[:body - 2]]
+    return [*(f"let ${each[1]}" for each in words if each[0] == "value"), *lines[body:-1]]
+
+
+def _place_of(refusal: str, text: str) -> str:
+    """The line of a procedure's text that a refusal is about, if it is about one."""
+    lines = text.splitlines()
+    words = refusal.split(" ")
+    if words[1] == "line" and int(words[2]) <= len(lines):
+        return lines[int(words[2]) - 1]
+    if words[1] == "check" and words[4] != "0":
+        return _statements(text)[int(words[4]) - 1]
+    if words[1:3] == ["check", "order"]:
+        sets = (line.split(" ")[1:] for line in lines if line.split(" ")[0] in ("reads", "writes"))
+        return next((" ".join(names) for names in sets if names != sorted(set(names))), "") + ": the names of a set rise"
+    return ""
+
+
 class Procedure(_core.Procedure):
     """A transaction with parameters, read and checked once. `Machine.prepare` makes it.
 
@@ -38,7 +61,10 @@ class Procedure(_core.Procedure):
 
     def __init__(self, machine: "Machine", text: Text) -> None:
         given = _exact(text)
-        self._prepare(machine, given)
+        try:
+            self._prepare(machine, given)
+        except RefusedError as refusal:
+            raise RefusedError(refusal.line, _place_of(refusal.line, given.decode(errors="replace"))) from None
         self.text = given.decode()
         lines = [line.split(" ") for line in self.text.splitlines()]
         keys, values = _named(lines, "key"), _named(lines, "value")
@@ -55,10 +81,7 @@ class Procedure(_core.Procedure):
         """The text of the statement with a number as replies have it: the values' `let`s count first.
 
             print(reply, transfer.statement(reply.statement))       # 3 abort need 3 need from >= $amount"""
-        values = [f"let ${name}" for name in self.values]
-        lines = self.text.splitlines()
-        body = next(at for at, line in enumerate(lines) if line.split(" ")[0] == "writes") + 1
-        statements = [*values, *lines[body:-1]]
+        statements = _statements(self.text)
         if not 1 <= number <= len(statements):
             raise IndexError(f"the procedure has no statement {number}")
         return statements[number - 1]
