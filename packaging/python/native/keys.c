@@ -51,14 +51,16 @@ uint32_t open_list(machine_object *machine, uint32_t edition) {
 }
 
 uint32_t handle_of(machine_object *machine, uint32_t edition, uint32_t index, uint32_t *handle) {
-    known_key *key = machine->keys + index;
-    uint32_t *known = key->handles + edition, status = BOHM_DONE;
-    const uint8_t *at = (const uint8_t *)key->at;
-    if (*known == NO_HANDLE)
-        status = edition ? machine->table->key_handle(machine->lists + (edition - 1), at, key->len, known)
-                         : machine->table->machine_key(&machine->machine, at, key->len, known);
+    uint32_t *known = machine->handles[edition] + index;
+    if (*known == NO_HANDLE) {
+        const known_key *key = machine->keys + index;
+        const uint8_t *at = (const uint8_t *)key->at;
+        uint32_t status = edition ? machine->table->key_handle(machine->lists + (edition - 1), at, key->len, known)
+                                  : machine->table->machine_key(&machine->machine, at, key->len, known);
+        if (status) return status;
+    }
     *handle = *known;
-    return status;
+    return BOHM_DONE;
 }
 
 static int has_key_room(machine_object *machine) {
@@ -67,6 +69,11 @@ static int has_key_room(machine_object *machine) {
     known_key *keys = room < NO_HANDLE ? PyMem_Realloc(machine->keys, room * sizeof *keys) : NULL;
     if (!keys) return 0;
     machine->keys = keys;
+    for (int i = 0; i < 3; i++) {
+        uint32_t *handles = PyMem_Realloc(machine->handles[i], room * sizeof *handles);
+        if (!handles) return 0;
+        machine->handles[i] = handles;
+    }
     machine->key_room = room;
     return 1;
 }
@@ -75,7 +82,7 @@ static int has_key_room(machine_object *machine) {
 static PyObject *add_key(machine_object *machine, const char *at, size_t len, PyObject *bytes) {
     if (!has_key_room(machine)) return PyErr_NoMemory();
     known_key *key = machine->keys + machine->key_count;
-    key->handles[0] = key->handles[1] = key->handles[2] = NO_HANDLE;
+    for (int i = 0; i < 3; i++) machine->handles[i][machine->key_count] = NO_HANDLE;
     key->len = (uint32_t)len;
     memcpy(key->at, at, len);
     PyObject *index = PyLong_FromSize_t(machine->key_count);

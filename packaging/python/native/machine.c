@@ -104,6 +104,7 @@ static void machine_dealloc(PyObject *self) {
     PyObject_GC_UnTrack(self);
     close_handles(machine);
     PyMem_Free(machine->keys);
+    for (int i = 0; i < 3; i++) PyMem_Free(machine->handles[i]);
     Py_XDECREF(machine->indices);
     Py_XDECREF(machine->pending);
     Py_XDECREF(machine->table);

@@ -123,9 +123,8 @@ typedef struct machine_object machine_object;
 
 #define NO_HANDLE UINT32_MAX
 
-/* A key that was looked up: its bytes, and its handles on the machine, and in the lists of editions 1 and 2. */
+/* A key that was looked up. */
 typedef struct {
-    uint32_t handles[3];
     uint32_t len;
     char at[32];
 } known_key;
@@ -195,6 +194,7 @@ struct machine_object {
     turn writing; /* of a call that changes the machine, for all of it */
     turn inside;  /* of a batch, or of a call that reads */
     known_key *keys;
+    uint32_t *handles[3]; /* those of the keys on the machine, and in the lists of editions 1 and 2 */
     size_t key_count, key_room;
     PyObject *indices; /* the place in `keys` of each key that was looked up, by its bytes */
     int is_held; /* whether replies wait in the library, of the transactions after `held_behind` */
