@@ -508,7 +508,7 @@ class Habits(unittest.TestCase):
                 ((good[0], good[1][1:], good[2]), ValueError, "to has 4999 items"), (good[:2], TypeError, "3 columns"),
                 ((*good, good[0]), TypeError, "3 columns"), ((*good[:2], array("d", good[2])), TypeError, "amount"),
                 ((b"aaa", *good[1:]), TypeError, "from"), ((5, *good[1:]), TypeError, "from"), ((*good[:2], [1 << 63] * 5000), OverflowError, ""),
-                ((["A"] * 5000, *good[1:]), bohm.NoKeyError, "'A'"), ((*good[:2], memoryview(bytes(8)).cast("B", (2, 4))), TypeError, "amount")):
+                ((["a", "b", "A"], *good[1:]), bohm.NoKeyError, r"from\[2\]: 'A' is not a key"), (([a], *good[1:]), TypeError, r"from\[0\]: "), ((*good[:2], memoryview(bytes(8)).cast("B", (2, 4))), TypeError, "amount")):
             with self.assertRaisesRegex(kind, told):
                 machine.run_many(transfer, *columns)
         with self.assertRaises(ValueError):

@@ -4,6 +4,7 @@ from typing import Any, Dict, Iterator, List, NamedTuple, NoReturn, Optional, Se
 
 from . import _core
 from ._core import Key
+from .errors import NoKeyError
 from .library import Library, Text, drawn_seed, load, octets
 from .procedures import Procedure
 from .replies import Answer, Reply, answer_of, store_of
@@ -95,7 +96,11 @@ class Machine(_core.Machine):
         return array("I", [self._handle_of(name, *each) for each in enumerate(column)]) if is_key else array("q", column)
 
     def _handle_of(self, name: str, row: int, key: Union[Text, Key]) -> int:
-        key = key if isinstance(key, Key) else Key(self, key)
+        if not isinstance(key, Key):
+            try:
+                key = Key(self, key)
+            except (NoKeyError, TypeError) as error:
+                raise type(error)(f"{name}[{row}]: {error}") from None
         if key.machine is not self:
             raise ValueError(f"{name}[{row}]: the key belongs to another machine")
         return key.handle

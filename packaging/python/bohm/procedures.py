@@ -80,7 +80,7 @@ class Procedure(_core.Procedure):
     def statement(self, number: int) -> str:
         """The text of the statement with a number as replies have it: the values' `let`s count first.
 
-            print(reply, transfer.statement(reply.statement))       # 3 abort need 3 need from >= $amount"""
+            print(f"{reply}: {transfer.statement(reply.statement)}")    # 7 abort need 3: need from >= $amount"""
         statements = _statements(self.text)
         if not 1 <= number <= len(statements):
             raise IndexError(f"the procedure has no statement {number}")
