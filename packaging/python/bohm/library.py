@@ -8,8 +8,9 @@ from ._core import Table
 
 Text = Union[str, bytes, bytearray, memoryview]
 
-# The shared object's name, which changes with the interface that programs rely on.
+# The shared object's name, which changes with the interface that programs rely on, and the interface that has a number.
 SHARED = "libbohm.so.0"
+ABI = 1
 FUNCTIONS = (
     "bohm_answer", "bohm_open", "bohm_apply_held", "bohm_rows", "bohm_value_at", "bohm_store_at", "bohm_digest", "bohm_trim",
     "bohm_timestamps", "bohm_counts", "bohm_close", "bohm_prepare", "bohm_close_procedure", "bohm_open_calls_for", "bohm_push",
@@ -36,7 +37,14 @@ class Library:
         beside = os.path.join(os.path.dirname(os.path.abspath(__file__)), SHARED)
         self.path = os.path.abspath(path) if path else beside if os.path.exists(beside) else SHARED
         self._loaded = ctypes.CDLL(self.path)
+        self._check_interface()
         self._table = Table({name: self._address(name) for name in FUNCTIONS + NEWER})
+
+    def _check_interface(self) -> None:
+        """Refuses a library with another interface, whose calls would read other arguments."""
+        number = getattr(self._loaded, "bohm_abi", None)
+        if number and number() != ABI:
+            raise OSError(f"{self.path} has the interface {number()}, and this package needs {ABI}")
 
     def _address(self, name: str) -> int:
         """A function's address; 0 if it is a newer one that the library doesn't have."""

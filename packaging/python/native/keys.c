@@ -109,34 +109,34 @@ static PyObject *index_of(machine_object *machine, const char *at, size_t len) {
     return index;
 }
 
-static int key_init(PyObject *self, PyObject *args, PyObject *named) {
-    key_object *key = (key_object *)self;
+/* A key of a machine, at a place among its known ones. Takes the reference to the place. */
+static PyObject *made_key(machine_object *machine, const char *at, size_t len, PyObject *index) {
+    allocfunc alloc = (allocfunc)PyType_GetSlot(key_type, Py_tp_alloc);
+    key_object *key = index ? (key_object *)alloc(key_type, 0) : NULL;
+    if (key) {
+        Py_INCREF(machine);
+        key->machine = machine;
+        key->index = (uint32_t)PyLong_AsUnsignedLong(index);
+        key->name = PyUnicode_FromStringAndSize(at, (Py_ssize_t)len);
+        if (!key->name) Py_CLEAR(key);
+    }
+    Py_XDECREF(index);
+    return (PyObject *)key;
+}
+
+static PyObject *key_new(PyTypeObject *type, PyObject *args, PyObject *named) {
     static char *words[] = {"machine", "name", NULL};
     PyObject *machine, *name, *held;
     const char *at;
     size_t len;
-    if (!PyArg_ParseTupleAndKeywords(args, named, "O!O", words, machine_type, &machine, &name)) return -1;
-    int status = key->machine ? -1 : key_bytes(name, &at, &len, &held);
-    if (status < 0) {
-        if (!PyErr_Occurred()) PyErr_SetString(PyExc_TypeError, "a key doesn't change");
-        return -1;
-    }
-    if (!status) {
-        PyErr_Format(no_key_error, "%R is not a key", name);
-        return -1;
-    }
-    PyObject *index = index_of((machine_object *)machine, at, len);
-    key->name = index ? PyUnicode_FromStringAndSize(at, (Py_ssize_t)len) : NULL;
+    (void)type;
+    if (!PyArg_ParseTupleAndKeywords(args, named, "O!O", words, machine_type, &machine, &name)) return NULL;
+    int is = key_bytes(name, &at, &len, &held);
+    if (is < 0) return NULL;
+    if (!is) return PyErr_Format(no_key_error, "%R is not a key", name);
+    PyObject *key = made_key((machine_object *)machine, at, len, index_of((machine_object *)machine, at, len));
     Py_DECREF(held);
-    if (!key->name) {
-        Py_XDECREF(index);
-        return -1;
-    }
-    key->index = (uint32_t)PyLong_AsUnsignedLong(index);
-    Py_DECREF(index);
-    Py_INCREF(machine);
-    key->machine = (machine_object *)machine;
-    return 0;
+    return key;
 }
 
 static int key_traverse(PyObject *self, visitproc visit, void *arg) {
@@ -168,7 +168,7 @@ static PyMemberDef members[] = {
     {0}};
 
 static PyType_Slot slots[] = {
-    {Py_tp_doc, "A key that a machine has looked up."}, {Py_tp_init, key_init}, {Py_tp_new, PyType_GenericNew},
+    {Py_tp_doc, "A key that a machine has looked up."}, {Py_tp_new, key_new},
     {Py_tp_traverse, key_traverse}, {Py_tp_clear, key_clear}, {Py_tp_dealloc, key_dealloc}, {Py_tp_repr, key_repr},
     {Py_tp_members, members}, {0}};
 
