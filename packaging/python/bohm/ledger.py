@@ -175,7 +175,7 @@ class Ledger:
 
     # Writing.
 
-    def _store(self, texts: Sequence[str]) -> List[Answer]:
+    def _store(self, texts: Sequence[str]) -> Sequence[Answer]:
         """Runs and stores a commit."""
         file, state = self._opened()
         try:
@@ -190,11 +190,13 @@ class Ledger:
                 self._checkpoint()
         return answers
 
-    def append(self, entries: Iterable[Text]) -> List[Answer]:
+    def append(self, entries: Iterable[Text]) -> Sequence[Answer]:
         """Runs and stores entries, and returns the answer to each: a Reply, a Defined or a Refused, of which `str` is
         the line. A refused entry isn't stored. At most 4,096 entries are one commit, which is stored whole or not at all;
         more are several. Where a later commit fails, the error's `answers` has those of the earlier ones."""
-        texts = [text_of(entry) for entry in entries]
+        texts = [*map(text_of, entries)]
+        if len(texts) <= MOST:
+            return self._turns.submit(texts)
         answers: List[Answer] = []
         for at in range(0, len(texts), MOST):
             try:

@@ -14,22 +14,26 @@ class First(NamedTuple):
     answer: Answer
 
 
-def commit(file: LedgerFile, state: State, texts: Sequence[str]) -> List[Answer]:
+def commit(file: LedgerFile, state: State, texts: Sequence[str]) -> Sequence[Answer]:
     """Runs entries and stores them; their answers are those of the file from then on. After an exception the state may be
     ahead of the file."""
     first = state.top + 1
     alike = state.alike(texts) if len(texts) > 1 else None
-    if alike:
-        ids = [*filter(None, alike.ids)]
-        if len({*ids}) == len(ids) and not (ids and file.requests(ids)):
-            replies = [*state.replies(alike.texts)]
-            file.commit(first, "".join(texts), [(request, str(reply)) for request, reply in zip(alike.ids, replies) if request])
-            return [*replies]
+    if alike and are_new(file, alike.ids):
+        replies = state.run_alike(alike)
+        requests = [(row[0], str(reply)) for row, reply in zip(alike.rows, replies) if row[0]] if alike.ids else []
+        file.commit(first, "".join(texts), requests)
+        return replies
     under_way = Commit(file, state, texts)
     under_way.take_all()
     if under_way.accepted:
         file.commit(first, "".join(under_way.accepted), under_way.requests)
     return under_way.answers
+
+
+def are_new(file: LedgerFile, ids: Sequence[str]) -> bool:
+    """Whether ids are known neither to the file nor twice among themselves."""
+    return not ids or len({*ids}) == len(ids) and not file.requests(ids)
 
 
 class Commit:

@@ -33,18 +33,22 @@ def answer_of(line: str) -> Answer:
     return Defined(line[len("defined "):]) if line.startswith("defined ") else reply_of(line)
 
 
-class Alike(NamedTuple):
-    """Calls of one procedure: their ids, or empty texts, and the transactions that they stand for."""
-
-    ids: List[str]
-    texts: List[str]
-
-
 class Prepared(NamedTuple):
     """A procedure that a machine has prepared, and its text's form."""
 
     form: Form
     procedure: Procedure
+
+
+class Alike(NamedTuple):
+    """Calls of one procedure: of each its id, or an empty text, and its arguments."""
+
+    prepared: Prepared
+    rows: List[Tuple[str, ...]]
+
+    @property
+    def ids(self) -> List[str]:
+        return [row[0] for row in self.rows if row[0]]
 
 
 class State:
@@ -95,14 +99,20 @@ class State:
         return [next(replies) if answer is None else answer for answer in answers]
 
     def alike(self, texts: Sequence[str]) -> Optional[Alike]:
-        """The texts as calls of one procedure that are all accepted, which takes a third of the time; none if they aren't that."""
-        words = texts[0].split(" ", 3)
-        name = words[2] if words[1:] and words[1][0:1] == "#" and words[2:] else words[-1 if len(words) < 2 else 1]
-        prepared = self.procedures.get(name)
-        rows = prepared.form.rows(texts) if prepared and words[0] == "call" else None
-        if prepared is None or rows is None:
-            return None
-        return Alike([row[0] for row in rows], [prepared.form.instance(row[1:]) for row in rows])
+        """The texts as calls of one procedure that are all accepted; none if they aren't that. Calls are read together in a
+        third of the time."""
+        words = texts[0].rstrip("\n").split(" ", 3)
+        at = 2 if words[1:] and words[1].startswith("#") else 1
+        prepared = self.procedures.get(words[at]) if words[0] == "call" and len(words) > at else None
+        rows = prepared.form.rows(texts) if prepared else None
+        return Alike(prepared, rows) if prepared and rows else None
+
+    def run_alike(self, alike: Alike) -> Sequence[Reply]:
+        """Runs calls of one procedure, and returns their replies. After an exception any part may have run."""
+        replies: List[Reply] = []
+        for piece in pieces([alike.prepared.form.instance(row[1:]) for row in alike.rows]):
+            replies += self.apply(piece)
+        return replies
 
     def instance(self, call: Call) -> Union[str, Refused]:
         """The transaction that a call stands for."""
@@ -145,7 +155,7 @@ class State:
             for at, text in enumerate(piece):
                 yield refused[at] if at in refused else next(rest)
 
-    def apply(self, texts: Sequence[str]) -> List[Reply]:
+    def apply(self, texts: Sequence[str]) -> Sequence[Reply]:
         """Runs transactions: all of them, or none where a RefusedError is raised. Replies have the ledger's numbers."""
         if not texts:
             return []

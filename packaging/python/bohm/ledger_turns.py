@@ -2,7 +2,7 @@
 import contextlib
 import threading
 from collections import deque
-from typing import Callable, Deque, Iterator, List, Optional, Sequence, Set
+from typing import Callable, Deque, Iterator, Optional, Sequence, Set
 
 from .ledger_file import LedgerError
 from .ledger_state import Answer
@@ -16,14 +16,14 @@ class Ticket:
 
     def __init__(self, texts: Sequence[str]) -> None:
         self.texts = texts
-        self.answers: Optional[List[Answer]] = None
+        self.answers: Optional[Sequence[Answer]] = None
         self.fault: Optional[BaseException] = None
 
 
 class Turns:
     """Threads take turns: the one whose turn it is stores the entries of all that wait, by `store`."""
 
-    def __init__(self, store: Callable[[Sequence[str]], List[Answer]]) -> None:
+    def __init__(self, store: Callable[[Sequence[str]], Sequence[Answer]]) -> None:
         self.store = store
         self.writing = threading.Lock()
         self.waiting: Deque[Ticket] = deque()
@@ -42,7 +42,7 @@ class Turns:
         finally:
             self.inside.discard(thread)
 
-    def submit(self, texts: Sequence[str]) -> List[Answer]:
+    def submit(self, texts: Sequence[str]) -> Sequence[Answer]:
         """Stores entries, and returns their answers."""
         ticket = Ticket(texts)
         self.waiting.append(ticket)
@@ -64,11 +64,14 @@ class Turns:
         while self.waiting and count + len(self.waiting[0].texts) <= MOST:
             group.append(self.waiting.popleft())
             count += len(group[-1].texts)
+        texts = group[0].texts if len(group) == 1 else [text for ticket in group for text in ticket.texts]
         try:
-            answers = self.store([text for ticket in group for text in ticket.texts])
+            answers = self.store(texts)
         except BaseException as fault:
             for ticket in group:
                 ticket.fault = fault
             raise
+        at = 0
         for ticket in group:
-            ticket.answers, answers = answers[:len(ticket.texts)], answers[len(ticket.texts):]
+            ticket.answers = answers if len(group) == 1 else answers[at:at + len(ticket.texts)]
+            at += len(ticket.texts)
