@@ -35,6 +35,9 @@ void peer_open(void) {
     checked(sqlite3_open(path, &base), SQLITE_OK);
     checked(sqlite3_exec(base, "pragma journal_mode = wal; pragma synchronous = full; create table batch(place integer "
             "primary key, first integer, entries text) strict", NULL, NULL, NULL), SQLITE_OK);
+    /* The log gets the size that it keeps: to write over it takes less than to let it grow. */
+    const char *pad = "create table pad(t); insert into pad values (zeroblob(4500000)); drop table pad";
+    checked(sqlite3_exec(base, pad, NULL, NULL, NULL), SQLITE_OK);
     begin = prepared("begin immediate");
     insert = prepared("insert into batch values (?, ?, ?)");
     commit = prepared("commit");

@@ -270,7 +270,7 @@ static void open_file(const char *path) {
     if (handle < 0 || flock(handle, LOCK_EX | LOCK_NB)) fail(path, "another ledger has it");
     free(log.at);
     make_tables();
-    need(number("PRAGMA wal_checkpoint(TRUNCATE)") == 0, "the log can't be emptied");
+    need(number("PRAGMA wal_checkpoint(RESTART)") == 0, "a reader keeps the log");
     if (number("SELECT format FROM ledger") != 1) fail(path, "it is no ledger");
     edition = (int)number("SELECT edition FROM ledger");
 }

@@ -45,8 +45,8 @@ impl Ledger {
             TABLES.iter().try_for_each(|sql| base.run(sql, &[]).map(drop))?;
         }
         base.run("COMMIT", &[])?;
-        if base.number("PRAGMA wal_checkpoint(TRUNCATE)")? != 0 || base.number("SELECT format FROM ledger")? != 1 {
-            return Err("it is no ledger, or a reader keeps its log from being emptied".into());
+        if base.number("PRAGMA wal_checkpoint(RESTART)")? != 0 || base.number("SELECT format FROM ledger")? != 1 {
+            return Err("it is no ledger, or a reader keeps its log".into());
         }
         let checkpoint = base.number("SELECT checkpoint FROM ledger")?;
         let rows = base.run("SELECT key || ' ' || value || char(10) FROM balance ORDER BY key", &[])?;
