@@ -28,9 +28,13 @@ pub record IsRefusedBy (text : List ℕ) (f : CheckFault) : Type 0 where
   pub text_is : print_procedure procedure ≡ text
   pub fault : IsFirstFault (alone (own procedure)) f
 
--- a call of the procedure with these arguments can be added to the calls
-pub record Takes (calls : Document) (p : Procedure) (ks : List (List ℕ)) (vs : List ℤ) : Type 0 where
-  pub keys : length ks ≡ length p.keys
-  pub values : length vs ≡ length p.values
+-- a call of the procedure with this many arguments of each kind can be added to the calls
+pub record TakesCounts (calls : Document) (p : Procedure) (key_count value_count : ℕ) : Type 0 where
+  pub keys : key_count ≡ length p.keys
+  pub values : value_count ≡ length p.values
   pub edition : p.edition ≡ calls.edition
   pub few : length calls.log < most_txns
+
+-- a call of the procedure with these arguments can be added to the calls
+abbrev pub Takes : Document → Procedure → List (List ℕ) → List ℤ → Type 0
+Takes calls p ks vs = TakesCounts calls p (length ks) (length vs)

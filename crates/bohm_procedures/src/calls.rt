@@ -6,7 +6,7 @@ ghost use Rattle.bohm_types.specs.Limits.{most_txns};
 ghost use Rattle.bohm_types.specs.Procedure.{instance};
 ghost use Rattle.bohm_log.specs.Handles.{keys_named};
 ghost use Rattle.bohm_text.specs.Print.{print_doc};
-ghost use Rattle.bohm_procedures.specs.Accepting.{Takes};
+ghost use Rattle.bohm_procedures.specs.Accepting.{Takes, TakesCounts};
 
 use crate::procedure::Procedure;
 use bohm_log::{CallPlaces, DrawnSeed, HashSeed, KeyHandle, SharedNames};
@@ -81,15 +81,22 @@ impl Calls {
         self.len() < MOST_TXNS
     }
 
-    /// Whether a call can be added: there are as many arguments of each kind as the procedure has
+    /// Whether a call with this many arguments of each kind can be added: the procedure has as many
     /// parameters, its edition is that of the calls, and there are fewer than 1,000,000 calls.
+    pub fn takes_counts(&self, procedure: &Procedure, keys: usize, values: usize) -> bool
+        ensures { (result ≡ true) ↔ TakesCounts self.now procedure.now keys values }
+    {
+        keys == procedure.keys()
+            && values == procedure.values()
+            && procedure.edition() == self.segment.edition()
+            && self.has_room()
+    }
+
+    /// Whether a call with these arguments can be added: `takes_counts` of their numbers.
     pub fn takes(&self, procedure: &Procedure, keys: &[Key], values: &[Value]) -> bool
         ensures { (result ≡ true) ↔ Takes self.now procedure.now keys.now values.now }
     {
-        keys.len() == procedure.keys()
-            && values.len() == procedure.values()
-            && procedure.edition() == self.segment.edition()
-            && self.has_room()
+        self.takes_counts(procedure, keys.len(), values.len())
     }
 
     /// Appends the instance of a procedure. It fails with `NoMemory` if an allocation fails or the
@@ -147,10 +154,7 @@ impl Calls {
         ensures { (result ≡ true)
             ↔ Takes self.now procedure.now (keys_named keys.now) values.now }
     {
-        keys.len() == procedure.keys()
-            && values.len() == procedure.values()
-            && procedure.edition() == self.segment.edition()
-            && self.has_room()
+        self.takes_counts(procedure, keys.len(), values.len())
     }
 
     /// Appends the instance of a procedure for the keys of these handles. It is like `push`, but
