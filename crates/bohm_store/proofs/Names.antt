@@ -32,6 +32,10 @@ named_at f from (k ∷ names) (suc i) d lt =
     let e : (from + 1) + i ≡ from + suc i = omega arith in
     rw (apart_at k names i d.0 (omega arith)) (named_at f (from + 1) names i d.1 (omega arith) ∙ ap f e)
 
+pub length-named : (f : ℕ → List Version) (from : ℕ) (names : List (List ℕ)) → length (named f from names) ≡ length names
+length-named f from [] = refl
+length-named f from (k ∷ names) = ap suc (length-named f (from + 1) names)
+
 pub versions_named : (f : ℕ → List Version) (names : List (List ℕ)) (n : ℕ) → IsDistinct bytes_eq names → n < length names
     → versions_in (named f 0 names) (name_at names n) ≡ f n
 versions_named f names n d lt = let e : 0 + n ≡ n = omega arith in named_at f 0 names n d lt ∙ ap f e

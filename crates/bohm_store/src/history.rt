@@ -193,6 +193,13 @@ impl History {
         self.numbered.top()
     }
 
+    /// The number of keys that it names, those without a value or a version included.
+    pub fn key_count(&self) -> usize
+        ensures { result ≡ length self.now.chains }
+    {
+        self.names.len()
+    }
+
     /// The number of kept versions, or `u64::MAX` if there are more. The time grows with the number
     /// of keys.
     pub fn version_count(&self) -> u64
