@@ -1,0 +1,5 @@
+pub mod Rows
+pub mod Rules
+pub mod Ledgers
+pub mod Steps
+pub mod Loading

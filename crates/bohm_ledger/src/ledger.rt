@@ -1,0 +1,192 @@
+//! A ledger: batches in a store, and a machine that has run them.
+
+ghost use Rattle.std.specs.Prelude.{◌≡◌, ◌⊎◌, ◌++◌, ◌<◌, ◌^◌, ◌≤◌, ℕ, List, [], ◌∷◌, true, false, IfOk, IfErr, OnOk, OnErr, IsTrue};
+ghost use Rattle.sqlite_trees.specs.Tree.{Trees};
+ghost use Rattle.sqlite_trees.specs.View.{doubt, IsClean};
+ghost use Rattle.bohm_types.specs.declared.edition.Edition.{Edition as TheEdition};
+ghost use Rattle.bohm_ledger.specs.Ledgers.{IsReady, StandsFor};
+ghost use Rattle.bohm_ledger.specs.Steps.{IsSteady};
+
+use crate::balance::replace;
+use crate::error::Fault;
+use crate::keep::keep;
+use crate::load::{Loaded, load};
+use crate::machine::Machine;
+use crate::tables::LIMIT;
+use bohm_types::Edition;
+use sqlite_trees::store::Store;
+use sqlite_value::row::Row;
+use std::alloc::Global;
+
+/// Batches of entries in a store, and a machine that has run them.
+#[derive(Drop)]
+pub struct Ledger<S: Store + Drop, M: Machine + Drop> {
+    store: S,
+    machine: M,
+    edition: Edition,
+    /// The place of the next batch.
+    place: u64,
+    /// The last transaction that the table `balance` has.
+    checkpoint: u64,
+    /// Whether a call failed after the machine had run a batch.
+    is_behind: bool,
+    row: Row,
+    alloc: Global,
+    ghost small: { place < 2 ^ 63 },
+    ghost steady: { IsClean (S.view store) → IsSteady (S.view store) },
+}
+
+impl<S: Store + Drop, M: Machine + Drop> Ledger<S, M> {
+    /// Opens the ledger that the store has committed: takes its checkpoint in, and runs the
+    /// batches after it in order. An `Err` hands the store back. The time grows with the number of
+    /// keys, the number of batches in the store, and the time of running those after the
+    /// checkpoint.
+    pub fn open(alloc: Global, mut store: S, mut machine: M) -> Result<Ledger<S, M>, (Fault, S)>
+        // Whichever batches the store's last commit stands for: the machine has run them.
+        ensures ready { IfOk result (λ it. IsClean (S.view it.store) → (edition : TheEdition) (bs : List (List ℕ))
+            → StandsFor M.rules edition bs (S.view store).committed → (it.edition ≡ edition)
+            × IsReady M.rules edition bs (S.view it.store) it.place it.checkpoint (M.state it.machine) (M.saved it.machine)) }
+        ensures same { IfOk result (λ it. IsClean (S.view it.store) → (S.view it.store).trees ≡ (S.view store).committed) }
+        ensures clean { IfOk result (λ it. doubt (S.view store).is_clean ≤ doubt (S.view it.store).is_clean) }
+
+        // A crash on the way leaves what it could have left before.
+        ensures any_moment { IfOk result (λ it. (db : Trees) → S.recovers it.store db → S.recovers store db) }
+        ensures any_moment_err { IfErr result (λ e. (db : Trees) → S.recovers e.1 db → S.recovers store db) }
+    {
+        let mut row = Row::new(alloc);
+        match load(&mut store, &mut machine, alloc, &mut row) {
+            Ok(
+                Loaded {
+                    edition,
+                    checkpoint,
+                    place,
+                },
+            ) => Ok(Ledger {
+                store,
+                machine,
+                edition,
+                place,
+                checkpoint,
+                is_behind: false,
+                row,
+                alloc,
+            }),
+            Err(fault) => Err((fault, store)),
+        }
+    }
+
+    /// Runs a batch and commits it, with the answers to its entries that carry an id. At `Ok` it is
+    /// acknowledged: from then on each crash leaves it. After an `Err` that follows the run, each
+    /// further call fails with `Behind`: open the ledger again.
+    pub fn append(&mut self, batch: &[u8]) -> Result<Vec<M::Reply>, Fault>
+        ensures stored { OnOk result (IsClean (S.view self.new.store) → (bs : List (List ℕ))
+            → IsReady M.rules self.old.edition bs (S.view self.old.store) self.old.place self.old.checkpoint (M.state self.old.machine) (M.saved self.old.machine)
+            → IsReady M.rules self.old.edition (bs ++ batch.now ∷ []) (S.view self.new.store) self.new.place self.new.checkpoint (M.state self.new.machine) (M.saved self.new.machine)) }
+        ensures replies { IfOk result (λ it. it.items ≡ M.replies (M.state self.old.machine) batch.now) }
+        ensures durable { OnOk result (IsClean (S.view self.new.store) → (bs : List (List ℕ))
+            → IsReady M.rules self.old.edition bs (S.view self.old.store) self.old.place self.old.checkpoint (M.state self.old.machine) (M.saved self.old.machine)
+            → (db : Trees) → S.recovers self.new.store db → StandsFor M.rules self.old.edition (bs ++ batch.now ∷ []) db) }
+        ensures unchanged { OnErr result (IsClean (S.view self.new.store) → self.new.is_behind ≡ false → (bs : List (List ℕ))
+            → IsReady M.rules self.old.edition bs (S.view self.old.store) self.old.place self.old.checkpoint (M.state self.old.machine) (M.saved self.old.machine)
+            → IsReady M.rules self.old.edition bs (S.view self.new.store) self.new.place self.new.checkpoint (M.state self.new.machine) (M.saved self.new.machine)) }
+        ensures behind { result ≡ Err Fault.Behind → self.old.is_behind ≡ true }
+        ensures edition { self.new.edition ≡ self.old.edition }
+        ensures clean { doubt (S.view self.old.store).is_clean ≤ doubt (S.view self.new.store).is_clean }
+
+        // A crash at any moment of the call leaves the batches from before it, with this one or
+        // without.
+        ensures any_moment { IsClean (S.view self.new.store) → (bs : List (List ℕ))
+            → IsReady M.rules self.old.edition bs (S.view self.old.store) self.old.place self.old.checkpoint (M.state self.old.machine) (M.saved self.old.machine)
+            → (db : Trees) → S.recovers self.new.store db
+            → StandsFor M.rules self.old.edition bs db ⊎ StandsFor M.rules self.old.edition (bs ++ batch.now ∷ []) db }
+    {
+        if self.is_behind {
+            return Err(Fault::Behind);
+        }
+        let top = self.machine.top();
+        if self.place + 1 >= LIMIT || top >= LIMIT - 1 {
+            return Err(Fault::Full);
+        }
+        self.is_behind = true;
+        let ran = self.machine.run(self.alloc, batch)?;
+        let answers = ran.answers.as_slice();
+        keep(
+            &mut self.store,
+            &mut self.row,
+            self.place,
+            top + 1,
+            batch,
+            answers,
+        )?;
+        self.place += 1;
+        self.is_behind = false;
+        Ok(ran.replies)
+    }
+
+    /// Puts the keys that changed since the last checkpoint into the table `balance`, and commits.
+    /// The time grows with their number.
+    pub fn checkpoint(&mut self) -> Result<(), Fault>
+        ensures ready { OnOk result (IsClean (S.view self.new.store) → (bs : List (List ℕ))
+            → IsReady M.rules self.old.edition bs (S.view self.old.store) self.old.place self.old.checkpoint (M.state self.old.machine) (M.saved self.old.machine)
+            → IsReady M.rules self.old.edition bs (S.view self.new.store) self.new.place self.new.checkpoint (M.state self.new.machine) (M.saved self.new.machine)) }
+        ensures marked { OnOk result (self.new.checkpoint ≡ (M.state self.old.machine).top) }
+        ensures unchanged { OnErr result (IsClean (S.view self.new.store) → IsTrue (S.view self.new.store).is_open → (bs : List (List ℕ))
+            → IsReady M.rules self.old.edition bs (S.view self.old.store) self.old.place self.old.checkpoint (M.state self.old.machine) (M.saved self.old.machine)
+            → IsReady M.rules self.old.edition bs (S.view self.new.store) self.new.place self.new.checkpoint (M.state self.new.machine) (M.saved self.new.machine)) }
+        ensures behind { result ≡ Err Fault.Behind → self.old.is_behind ≡ true }
+        ensures edition { self.new.edition ≡ self.old.edition }
+        ensures clean { doubt (S.view self.old.store).is_clean ≤ doubt (S.view self.new.store).is_clean }
+
+        // A crash at any moment of the call leaves the same batches.
+        ensures any_moment { IsClean (S.view self.new.store) → (bs : List (List ℕ))
+            → IsReady M.rules self.old.edition bs (S.view self.old.store) self.old.place self.old.checkpoint (M.state self.old.machine) (M.saved self.old.machine)
+            → (db : Trees) → S.recovers self.new.store db → StandsFor M.rules self.old.edition bs db }
+    {
+        if self.is_behind {
+            return Err(Fault::Behind);
+        }
+        let top = self.machine.top();
+        if top >= LIMIT {
+            return Err(Fault::Full);
+        }
+        replace(
+            &mut self.store,
+            &self.machine,
+            &mut self.row,
+            self.edition,
+            top,
+        )?;
+        self.machine.note_checkpoint();
+        self.checkpoint = top;
+        Ok(())
+    }
+
+    /// Takes it apart, with the machine and the store as they are.
+    pub fn into_parts(self) -> (S, M)
+        ensures { result ≡ (self.store, self.machine) }
+    {
+        let Ledger { store, machine, .. } = self;
+        (store, machine)
+    }
+
+    /// The machine.
+    pub fn machine(&self) -> &M
+        ensures { result.now ≡ self.now.machine }
+    {
+        &self.machine
+    }
+
+    /// The edition of its entries.
+    pub fn edition(&self) -> Edition
+        ensures { result ≡ self.now.edition }
+    {
+        self.edition
+    }
+
+    /// The last transaction whose store the table `balance` holds.
+    pub fn checkpointed(&self) -> u64
+        ensures { result ≡ self.now.checkpoint }
+    {
+        self.checkpoint
+    }
+}

@@ -1,0 +1,15 @@
+//! A ledger: batches of entries in a store that a crash can't tear, and a machine that has run
+//! them.
+#![tactic(auto)]
+
+mod balance;
+mod error;
+mod keep;
+mod ledger;
+mod load;
+mod machine;
+mod tables;
+
+pub use error::Fault;
+pub use ledger::Ledger;
+pub use machine::{Answer, Machine, Ran};

@@ -1,0 +1,132 @@
+//! What runs the batches of a ledger.
+
+ghost use Rattle.std.specs.Prelude.{◌≡◌, ℕ, List, false, map, IfOk, OnOk};
+ghost use Rattle.bohm_types.specs.Keys.{is_among};
+ghost use Rattle.bohm_ledger.specs.Rules.{Look, State, Rules, AreRules, after, cells};
+ghost use Rattle.bohm_ledger.specs.Loading.{passed};
+
+use bohm_types::{Cell, Edition, Key, Value};
+use std::alloc::{AllocError, Global};
+use std::marker::Model;
+
+/// The id that an entry carried, and the answer to it.
+#[derive(Debug, Drop)]
+pub struct Answer {
+    id: Vec<u8>,
+    text: Vec<u8>,
+}
+
+impl Model for Answer {
+    ghost use Rattle.std.specs.Prelude.{ℕ, List};
+
+    ghost Value = { List ℕ × List ℕ };
+
+    ghost view = { λ a. (a.id.items, a.text.items) };
+}
+
+impl Answer {
+    /// An answer to the entry with this id.
+    pub fn new(id: Vec<u8>, text: Vec<u8>) -> Answer
+        ensures { result ≡ (id.items, text.items) }
+    {
+        Answer { id, text }
+    }
+
+    /// The id.
+    pub fn id(&self) -> &[u8]
+        ensures { result.now ≡ self.now.0 }
+    {
+        self.id.as_slice()
+    }
+
+    /// The answer's text.
+    pub fn text(&self) -> &[u8]
+        ensures { result.now ≡ self.now.1 }
+    {
+        self.text.as_slice()
+    }
+}
+
+/// What running a batch gives.
+#[derive(Drop)]
+pub struct Ran<T: Drop> {
+    /// A reply to each entry, in order.
+    pub replies: Vec<T>,
+    /// The answers to the entries that carry an id, in order.
+    pub answers: Vec<Answer>,
+}
+
+/// What runs the batches of a ledger, one after another. It remembers what each key held at the
+/// last checkpoint.
+pub trait Machine {
+    type Reply: Drop;
+
+    ghost Defs: { Type 0 };
+
+    ghost rules: { Rules Defs };
+
+    // The replies to a batch's entries.
+    ghost replies: { State Defs → List ℕ → List Self.Reply };
+
+    ghost state: { Self → State Defs };
+
+    // What each key held at the last checkpoint.
+    ghost saved: { Self → Look };
+
+    /// The number of the last transaction.
+    fn top(&self) -> u64
+        ensures { result ≡ (state self.now).top };
+
+    /// How many transactions a batch has.
+    fn size(&self, batch: &[u8]) -> usize
+        ensures { result ≡ rules.size batch.now };
+
+    /// Whether a batch has no definition.
+    fn is_plain(&self, batch: &[u8]) -> bool
+        ensures { result ≡ rules.is_plain batch.now };
+
+    /// Goes to a checkpoint: no definition, the keys as in the store, and the number of the last
+    /// transaction before. After an `Err` nothing is known of the machine.
+    fn start(
+        &mut self,
+        edition: Edition,
+        store: &[(Key, Value)],
+        top: u64,
+    ) -> Result<(), AllocError>
+        ensures state { OnOk result
+            (state self.new ≡ record { defs = rules.start edition; look = cells store.now; top = top }) }
+        ensures saved { OnOk result (saved self.new ≡ cells store.now) };
+
+    /// Takes the definitions of a batch in, and runs none of its transactions.
+    fn pass(&mut self, batch: &[u8]) -> Result<(), AllocError>
+        ensures state { OnOk result (state self.new ≡ passed rules (state self.old) batch.now) }
+        ensures saved { OnOk result (saved self.new ≡ saved self.old) };
+
+    /// Runs a batch. After an `Err` nothing is known of the machine.
+    fn run(&mut self, alloc: Global, batch: &[u8]) -> Result<Ran<Self::Reply>, AllocError>
+        ensures state { OnOk result (state self.new ≡ after rules (state self.old) batch.now) }
+        ensures saved { OnOk result (saved self.new ≡ saved self.old) }
+        ensures replies { IfOk result (λ it. it.replies.items ≡ replies (state self.old) batch.now) }
+        ensures answers { IfOk result
+            (λ it. it.answers.items ≡ rules.answers (state self.old) batch.now) };
+
+    /// Keys, among which each key is that changed since the last checkpoint.
+    fn changed(&self) -> &[Key]
+        ensures { (k : List ℕ) → is_among result.now k ≡ false
+            → saved self.now k ≡ (state self.now).look k };
+
+    /// What a key holds.
+    fn value(&self, key: &Key) -> Cell
+        ensures { result ≡ (state self.now).look key.now };
+
+    /// What a key held at the last checkpoint.
+    fn saved_value(&self, key: &Key) -> Cell
+        ensures { result ≡ saved self.now key.now };
+
+    /// Makes a checkpoint of this moment.
+    fn note_checkpoint(&mut self)
+        ensures state { state self.new ≡ state self.old }
+        ensures saved { saved self.new ≡ (state self.old).look };
+
+    ghost keeps_rules: { AreRules rules };
+}
