@@ -1,19 +1,21 @@
 //! Hashes of names that differ in few letters, under many seeds.
 
-ghost use Rattle.std.specs.Prelude.{◌≤◌};
-
 use crate::draws::Draws;
 use bohm_log::{DrawnSeed, HashSeed};
 use bohm_types::Key;
+use std::alloc::Global;
 use std::hash::{BuildHasher, Hash, Hasher};
 use std::io;
+use std::process::Abort;
 use std::random::RandomSource;
 
-/// The groups of a table for 1152 keys, and the places in a group.
-const GROUPS: usize = 128;
+/// The groups of a table for 144 keys, and the places in a group.
+const GROUPS: usize = 16;
+
 const PLACES: u8 = 16;
 
-/// A source whose numbers another number determines.
+/// A source whose bytes a number determines.
+#[derive(Drop)]
 struct Drawn {
     number: u32,
 }
@@ -28,15 +30,21 @@ impl RandomSource for Drawn {
     }
 }
 
-/// One of 1152 names: `aa00` to `ar77`.
-fn name(number: u32) -> Option<Key> {
-    let letter = b'a' + (number / 64 % 18) as u8;
-    let high = b'0' + (number / 8 % 8) as u8;
-    let low = b'0' + (number % 8) as u8;
-    Key::new(&[b'a', letter, high, low])
+/// The 144 names from `aa00` to `ai33`.
+fn names(rt: &impl Abort, alloc: Global) -> Vec<Key> {
+    let mut names = Vec::new(alloc);
+    for number in 0..144u32 {
+        let letter = b'a' + (number / 16 % 9) as u8;
+        let high = b'0' + (number / 4 % 4) as u8;
+        let low = b'0' + (number % 4) as u8;
+        let name = Key::new(&[b'a', letter, high, low]).expect(rt, "a key");
+        names.push(name).expect(rt, "memory");
+    }
+    names
 }
 
-/// The first half of a hash joined with the second, as the toolchain's tables take it.
+/// The group that a key's hash determines: the halves of a hash are joined, as the toolchain's
+/// tables join them.
 fn group_of(seed: &HashSeed, key: &Key) -> usize {
     let mut hasher = seed.build_hasher();
     key.hash(&mut hasher);
@@ -44,8 +52,8 @@ fn group_of(seed: &HashSeed, key: &Key) -> usize {
     ((hash ^ (hash >> 32)) % GROUPS as u64) as usize
 }
 
-/// Fills a place of the first group with a free one, from this group on. Returns how many groups
-/// are passed.
+/// Takes a place in the first group with a free one, from this group on. Returns how many full
+/// groups are passed.
 fn insert(used: &mut [u8; GROUPS], group: usize) -> u32 {
     for passed in 0..GROUPS {
         let at = (group % GROUPS + passed) % GROUPS;
@@ -58,23 +66,23 @@ fn insert(used: &mut [u8; GROUPS], group: usize) -> u32 {
 }
 
 /// How many full groups the insertions of all names pass, nine names for each group.
-fn passed(seed: &HashSeed) -> u32 {
+fn passed(seed: &HashSeed, names: &[Key]) -> u32 {
     let mut used = [0u8; GROUPS];
     let mut sum = 0u32;
-    for number in 0..1152 {
-        if let Some(key) = name(number) {
-            sum = sum.saturating_add(insert(&mut used, group_of(seed, &key)));
-        }
+    for name in names {
+        sum = sum.saturating_add(insert(&mut used, group_of(seed, name)));
     }
     sum
 }
 
-/// A random function passes 2.6 groups on average, and in 10,000 trials not more than 30.
+/// The insertions pass 0.25 groups on average under random functions, and 14 under the worst of
+/// 10,000.
 #[test]
 fn no_seed_is_bad(rt: HostRuntime) {
+    let names = names(&rt, rt.alloc());
     for number in 0..10_000 {
         let seed = HashSeed::from(DrawnSeed::draw(&Drawn { number }));
-        let sum = passed(&seed);
-        assert!(rt; sum <= 60, "{number}: {sum}");
+        let sum = passed(&seed, &names);
+        assert!(rt; sum <= 28, "{number}: {sum}");
     }
 }

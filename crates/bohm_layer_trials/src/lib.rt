@@ -1,6 +1,7 @@
-//! Tests of the layers that a run is made of, over their public calls. They cover texts, sums
-//! without terms, hashes under many seeds, procedures and their calls, sure transactions, plans, sweeps by several passes and
-//! threads, and histories in use. The logs, the gate and the generator are shared with the tests of whole runs.
+//! Tests of the layers that a run is made of, over their public calls. They cover texts, hashes
+//! under many seeds, names that cleared logs keep, sums without terms, procedures and their calls,
+//! sure transactions, plans, sweeps by several passes and threads, and histories in use. The logs,
+//! the gate and the generator are shared with the tests of whole runs.
 #![tactic(auto)]
 
 #[cfg(test)]
@@ -17,6 +18,8 @@ mod draws;
 mod hash_seeds;
 #[cfg(test)]
 mod histories;
+#[cfg(test)]
+mod kept_names;
 #[cfg(test)]
 mod logs;
 #[cfg(test)]

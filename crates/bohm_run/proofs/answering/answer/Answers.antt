@@ -7,4 +7,4 @@ pub returns : goal.returns
 returns c = λ keep unread unread' run.
     answer_text keep unread unread' c.args.state run c.args.ts c.in_ok-store.store.items _ c.requires.kept c.requires.there c.in_ok-store.ensures.past
     c.in_ok-store.ensures.entries
-    (c.in_ok-put_store.ensures ∙ (λ i. c.into_bytes-bytes.ensures i ++ print_store (c.as_slice.ensures.value i)))
+    (c.in_ok-put_store.ensures.ok ∙ (λ i. c.into_bytes-bytes.ensures i ++ print_store (c.as_slice.ensures.value i)))
