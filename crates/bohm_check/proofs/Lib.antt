@@ -8,3 +8,5 @@ mod Totals
 mod Named
 mod Scoped
 mod Rows
+mod Reporting
+mod Distinct

@@ -5,3 +5,5 @@ pub mod Names
 pub mod Scopes
 pub mod SummaryLine
 pub mod Shown
+pub mod Reports
+pub mod Distinct

@@ -326,6 +326,8 @@ fn first_faults(alloc: Global, doc: &Doc) -> Result<Vec<Told>, NoMemory>
 /// Its time grows with the number of the document's store entries, keys, terms and statements, and
 /// in a transaction with faults with the number n of these as n log n.
 pub fn faults(alloc: Global, doc: &Doc) -> Result<Vec<Told>, NoMemory>
+    ensures in_order { IfOk result
+        (λ told. told.items ≡ take MOST_TOLD (doc_told doc.now)) }
     ensures told { IfOk result (λ told. All (IsTold doc.now) told.items) }
     ensures few { IfOk result (λ told. length told.items ≤ MOST_TOLD) }
     ensures all { IfOk result (λ told. length told.items < MOST_TOLD

@@ -2,10 +2,32 @@
 
 use crate::spelling::{Fit, Spelling, best_fit};
 
+/// What a text is, by its first line.
+#[derive(Clone, Copy, Debug, PartialEq, Eq)]
+pub enum Kind {
+    Log,
+    Procedure,
+}
+
+impl Kind {
+    /// What a text with this first line is.
+    pub fn headed(line: &[u8]) -> Kind {
+        if line == b"procedure 1".as_slice() || line == b"procedure 2".as_slice() {
+            Kind::Procedure
+        } else {
+            Kind::Log
+        }
+    }
+}
+
 /// Which line comes next in a text.
 #[derive(Clone, Copy, Debug, PartialEq, Eq)]
 pub enum Place {
     Head,
+    /// A parameter of a procedure, or its reads.
+    Keys,
+    /// A value parameter of a procedure, or its reads.
+    Values,
     /// A line of the store, or the first transaction's opening.
     Store,
     /// A further transaction's opening.
@@ -14,25 +36,33 @@ pub enum Place {
     Writes,
     /// A statement, or the transaction's closing.
     Body,
+    /// Nothing: a procedure is closed.
+    Closed,
 }
 
 impl Place {
     /// Which line comes next after a valid line.
-    pub fn behind(self, line: &[u8]) -> Place {
+    pub fn behind(self, kind: Kind, line: &[u8]) -> Place {
         match self {
+            Place::Head if kind == Kind::Procedure => Place::Keys,
             Place::Head => Place::Store,
+            Place::Keys if line.starts_with(b"key ") => Place::Keys,
+            Place::Keys | Place::Values if line.starts_with(b"value ") => Place::Values,
+            Place::Keys | Place::Values => Place::Writes,
             Place::Store if line != b"txn".as_slice() => Place::Store,
             Place::Store | Place::Between => Place::Reads,
             Place::Reads => Place::Writes,
             Place::Writes => Place::Body,
             Place::Body if line != b"end".as_slice() => Place::Body,
+            Place::Body if kind == Kind::Procedure => Place::Closed,
             Place::Body => Place::Between,
+            Place::Closed => Place::Closed,
         }
     }
 
     /// Whether a text may end here.
     pub fn may_end(self) -> bool {
-        matches!(self, Place::Store | Place::Between)
+        matches!(self, Place::Store | Place::Between | Place::Closed)
     }
 }
 
@@ -52,6 +82,10 @@ pub enum SumEnd {
 pub enum State {
     Log,
     Edition,
+    /// The first word of a parameter's line, or of the reads.
+    Parameter,
+    ValueParameter,
+    ParameterName,
     Entry,
     /// The number of a line of the store. Its key may be `txn`, which opens a transaction as well.
     Number { opens: bool },
@@ -73,6 +107,8 @@ pub enum State {
     BehindTerm(SumEnd),
     FurtherTerm { minus: bool, end: SumEnd },
     LineEnd,
+    /// No word, and no line.
+    TextEnd,
 }
 
 const CMP: Spelling = Spelling::OneOf(&[b"<", b"<=", b"=", b">=", b">"]);
@@ -84,11 +120,14 @@ impl State {
     pub fn at(place: Place) -> State {
         match place {
             Place::Head => State::Log,
+            Place::Keys => State::Parameter,
+            Place::Values => State::ValueParameter,
             Place::Store => State::Entry,
             Place::Between => State::Opening,
             Place::Reads => State::Reads,
             Place::Writes => State::Writes,
             Place::Body => State::Verb,
+            Place::Closed => State::TextEnd,
         }
     }
 
@@ -108,7 +147,13 @@ impl State {
         match self {
             State::Log => &[Spelling::OneOf(&[b"log"])],
             State::Edition => &[Spelling::OneOf(&[b"1", b"2"])],
-            State::Entry | State::MoreKeys | State::SetKey | State::DropKey => &[Spelling::Key],
+            State::Parameter => &[Spelling::OneOf(&[b"key", b"value", b"reads"])],
+            State::ValueParameter => &[Spelling::OneOf(&[b"value", b"reads"])],
+            State::Entry
+            | State::ParameterName
+            | State::MoreKeys
+            | State::SetKey
+            | State::DropKey => &[Spelling::Key],
             State::Number { .. } => &[Spelling::Number],
             State::Opening => &[Spelling::OneOf(&[b"txn"])],
             State::Reads => &[Spelling::OneOf(&[b"reads"])],
@@ -125,7 +170,7 @@ impl State {
             State::BehindTerm(SumEnd::Comparison) => &[SIGN, CMP],
             State::FurtherTerm { minus: true, .. } => &[Spelling::TakenAtom],
             State::FurtherTerm { minus: false, .. } => &[Spelling::Atom],
-            State::LineEnd => &[],
+            State::LineEnd | State::TextEnd => &[],
         }
     }
 
@@ -133,6 +178,9 @@ impl State {
     pub fn called(self) -> &'static str {
         match self {
             State::Log | State::Edition => "`log 1` or `log 2`",
+            State::Parameter => "a parameter (`key` or `value` and a name) or `reads` and keys",
+            State::ValueParameter => "a parameter (`value` and a name) or `reads` and keys",
+            State::ParameterName => "a parameter's name",
             State::Entry => "a key of the store and its number, or `txn`",
             State::Number { .. } =>
                 "a whole number, from -9223372036854775808 to 9223372036854775807",
@@ -152,6 +200,7 @@ impl State {
             State::BehindTerm(SumEnd::Guard) => "`+`, `-`, `when` or the line's end",
             State::BehindTerm(SumEnd::Comparison) => "`+`, `-`, `<`, `<=`, `=`, `>=` or `>`",
             State::LineEnd => "the line's end",
+            State::TextEnd => "the text's end",
         }
     }
 
@@ -172,7 +221,16 @@ impl State {
     pub fn behind(self, word: &[u8]) -> State {
         match self {
             State::Log => State::Edition,
-            State::Edition | State::Opening | State::DropKey | State::LineEnd => State::LineEnd,
+            State::Edition
+            | State::ParameterName
+            | State::Opening
+            | State::DropKey
+            | State::LineEnd => State::LineEnd,
+            State::TextEnd => State::TextEnd,
+            State::Parameter | State::ValueParameter if word != b"reads".as_slice() => {
+                State::ParameterName
+            }
+            State::Parameter | State::ValueParameter => State::MoreKeys,
             State::Entry => State::Number {
                 opens: word == b"txn".as_slice(),
             },
@@ -225,6 +283,15 @@ pub struct Halt {
     pub offset: usize,
     /// Which word was expected there.
     pub state: State,
+}
+
+/// Where a line of a text of this kind stops being valid at a place. `None` if it is valid.
+pub fn halt_in(kind: Kind, place: Place, line: &[u8]) -> Option<Halt> {
+    if place == Place::Head && kind == Kind::Procedure {
+        None
+    } else {
+        first_halt(place, line)
+    }
 }
 
 /// Where a line stops being valid at a place: after its longest prefix that a valid line may begin

@@ -9,18 +9,17 @@ use std::alloc::Global;
 
 /// The message about keys out of order in the store, the reads or the writes.
 fn put_order(out: &mut Vec<u8>, set: &str, before: Key, key: Key) -> Result<(), NoMemory> {
+    put_name(out, key)?;
     if key == before {
-        put_name(out, key)?;
-        put_text(out, " stands twice among ")?;
+        put_text(out, " is listed twice in ")?;
         put_text(out, set)?;
         return put_text(out, "\n");
     }
-    put_name(out, key)?;
-    put_text(out, " stands behind ")?;
+    put_text(out, " comes after ")?;
     put_name(out, before)?;
-    put_text(out, ", and ")?;
+    put_text(out, "; the keys of ")?;
     put_text(out, set)?;
-    put_text(out, " rise\n")
+    put_text(out, " must be in rising order\n")
 }
 
 /// The message about the store's first key out of order, which is on this line.
@@ -31,7 +30,7 @@ pub fn put_store_order(out: &mut Vec<u8>, doc: &Doc, line: u64) -> Result<(), No
     let store = doc.store();
     let place = index as usize;
     match (store.get(place.saturating_sub(1)), store.get(place)) {
-        (Some(before), Some(entry)) => put_order(out, "the store's keys", before.0, entry.0),
+        (Some(before), Some(entry)) => put_order(out, "the store", before.0, entry.0),
         _ => Ok(()),
     }
 }
@@ -119,14 +118,14 @@ pub fn put_sets_order(alloc: Global, out: &mut Vec<u8>, txn: &TxnView<'_>) -> Re
     if !are_rising(&txn.reads()) {
         let set = Set {
             word: "reads",
-            called: "the reads",
+            called: "`reads`",
             keys: txn.reads(),
         };
         put_set_order(alloc, out, &set)
     } else {
         let set = Set {
             word: "writes",
-            called: "the writes",
+            called: "`writes`",
             keys: txn.writes(),
         };
         put_set_order(alloc, out, &set)

@@ -27,9 +27,3 @@ pub fn first_line(text: &[u8]) -> &[u8] {
     let end = memchr(b'\n', text).unwrap_or(text.len());
     text.get(..end).unwrap_or(text)
 }
-
-/// A line of a text, counted from 1, without its newline; empty if the text has no such line. The
-/// time grows with the text before it.
-pub fn line_at(text: &[u8], line: u64) -> &[u8] {
-    first_line(behind_lines(text, line.saturating_sub(1)))
-}

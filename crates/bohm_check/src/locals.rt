@@ -66,11 +66,6 @@ fn put_local(out: &mut Vec<u8>, name: Key) -> Result<(), NoMemory> {
     put_name(out, name)
 }
 
-/// The line of a body's statement.
-fn line_of(site: Site<'_>, index: usize) -> u64 {
-    site.opening.saturating_add(3).saturating_add(index as u64)
-}
-
 /// A name that the transaction doesn't use: this one with `_` and a digit appended.
 fn fresh_name(alloc: Global, txn: &TxnView<'_>, name: Key) -> Result<Option<Key>, NoMemory> {
     let mut text = Vec::new(alloc);
@@ -106,7 +101,7 @@ fn put_rebound_help(
     let Some(fresh) = fresh_name(alloc, txn, name)? else {
         return Ok(());
     };
-    let line = site.shown();
+    let line = site.exact();
     put_text(out, "help: let ")?;
     put_local(out, fresh)?;
     put_text(out, " ")?;
@@ -121,12 +116,12 @@ fn put_rebound(out: &mut Vec<u8>, site: Site<'_>, name: Key, first: usize) -> Re
         is_local: true,
         word: 1,
     };
-    put_marked(out, site.shown(), local)?;
+    put_marked(out, site.page, site.line, local)?;
     put_local(out, name)?;
     put_text(out, " is bound twice: line ")?;
-    put_number(out, line_of(site, first))?;
+    put_number(out, site.page.number(site.statement(first)))?;
     put_text(out, " has ")?;
-    put_quoted(out, site.text.line(line_of(site, first)))?;
+    put_quoted(out, site.page.line(site.statement(first)))?;
     put_text(out, "\n")
 }
 
@@ -138,12 +133,12 @@ fn put_unbound(
     local: PlacedName,
 ) -> Result<(), NoMemory> {
     let name = local.name;
-    put_marked(out, site.shown(), local)?;
+    put_marked(out, site.page, site.line, local)?;
     put_local(out, name)?;
     put_text(out, " isn't bound by an earlier statement")?;
     if let Some(later) = bindings.first(name) {
         put_text(out, ": line ")?;
-        put_number(out, line_of(site, later))?;
+        put_number(out, site.page.number(site.statement(later)))?;
         put_text(out, " binds it too late")?;
     }
     put_text(out, "\n")

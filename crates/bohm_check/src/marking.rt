@@ -1,5 +1,6 @@
 //! Names on a statement's line, with carets below them.
 
+use crate::page::Page;
 use crate::shown::put_line;
 use bohm_types::{Key, NoMemory};
 
@@ -25,15 +26,22 @@ pub fn bytes_before(line: &[u8], word: usize) -> usize {
     line.len()
 }
 
-/// The line, with a caret below each byte of a name.
-pub fn put_marked(out: &mut Vec<u8>, line: &[u8], name: PlacedName) -> Result<(), NoMemory> {
-    let mut offset = bytes_before(line, name.word);
-    if line.get(offset) == Some(&b'-') {
+/// The line of a document that has a name, with a caret below each byte of the name.
+pub fn put_marked(
+    out: &mut Vec<u8>,
+    page: Page<'_>,
+    line: u64,
+    name: PlacedName,
+) -> Result<(), NoMemory> {
+    let exact = page.line(line);
+    let mut offset = bytes_before(exact, name.word);
+    if exact.get(offset) == Some(&b'-') {
         offset = offset.saturating_add(1);
     }
     let mut carets = name.name.text().as_slice().len();
     if name.is_local {
         carets = carets.saturating_add(1);
     }
-    put_line(out, line, offset.saturating_add(1), carets)
+    let column = page.offset(line, offset).saturating_add(1);
+    put_line(out, page.shown(line), column, carets)
 }

@@ -1,6 +1,6 @@
 //! Common mistakes that have their own messages.
 
-use crate::grammar::{Halt, Place, State};
+use crate::grammar::{Halt, Place, State, SumEnd};
 use crate::spelling::is_name_byte;
 use bohm_types::LONGEST_NAME;
 
@@ -17,7 +17,16 @@ pub enum Mistake {
     TwoBlanks,
     Capital,
     DoubledEquals,
+    Unequal,
+    Connective,
+    AddedTo,
+    IfForWhen,
+    IfStatement,
+    TestInGuard,
+    Parenthesis,
     Product,
+    MinusApart,
+    ForeignMinus,
     LeadingZero,
     MinusZero,
     LargeNumber,
@@ -34,6 +43,22 @@ pub enum Mistake {
 /// The bytes that editors put before a text.
 pub const BYTE_ORDER_MARK: &[u8] = b"\xEF\xBB\xBF";
 
+/// Whether bytes begin with a minus or a dash that isn't the one of a keyboard.
+pub fn begins_with_dash(bytes: &[u8]) -> bool {
+    bytes.starts_with(b"\xE2\x88\x92") || bytes.starts_with(b"\xE2\x80\x93")
+}
+
+/// Whether the first byte that isn't a space begins a comment.
+fn is_comment(bytes: &[u8]) -> bool {
+    match bytes.iter().position(|byte| *byte != b' ') {
+        Some(at) => match bytes.get(at..) {
+            Some([b'#', ..] | [b'/', b'/', ..]) => true,
+            _ => false,
+        },
+        None => false,
+    }
+}
+
 impl Mistake {
     /// The mistake at the byte where a line stops being valid at a place.
     pub fn at(place: Place, line: &[u8], halt: Halt) -> Mistake {
@@ -49,10 +74,41 @@ impl Mistake {
         let (before, behind) = line
             .split_at_checked(halt.offset)
             .unwrap_or((line, b"".as_slice()));
-        match behind {
-            [] if before.last() == Some(&b' ') => Mistake::BlankAtEnd,
-            [] => Mistake::TooShort,
-            [byte, others @ ..] => Mistake::of_byte(before, *byte, others, halt.state),
+        match Mistake::of_word(before, behind, halt.state) {
+            Some(mistake) => mistake,
+            None => match behind {
+                [] if before.last() == Some(&b' ') => Mistake::BlankAtEnd,
+                [] => Mistake::TooShort,
+                [byte, others @ ..] => Mistake::of_byte(before, *byte, others, halt.state),
+            },
+        }
+    }
+
+    /// The mistake of an operator of other languages, given the bytes of the line before it and
+    /// from it on.
+    fn of_word(before: &[u8], behind: &[u8], state: State) -> Option<Mistake> {
+        let word = first_word(behind);
+        if begins_with_dash(behind) {
+            return Some(Mistake::ForeignMinus);
+        }
+        if word.starts_with(b"!=") || word.starts_with(b"<>") || word == b">".as_slice() && before.ends_with(b"<") {
+            return Some(Mistake::Unequal);
+        }
+        if before.ends_with(b" when has ") || before.ends_with(b" when no ") {
+            return Some(Mistake::TestInGuard);
+        }
+        match state {
+            State::SetEquals if word == b"+=".as_slice() || word == b"-=".as_slice() => {
+                Some(Mistake::AddedTo)
+            }
+            State::Verb if word == b"if".as_slice() => Some(Mistake::IfStatement),
+            State::BehindTerm(SumEnd::Guard) if word == b"if".as_slice() => {
+                Some(Mistake::IfForWhen)
+            }
+            State::BehindTerm(_) | State::LineEnd if is_connective(word) => {
+                Some(Mistake::Connective)
+            }
+            _ => None,
         }
     }
 
@@ -65,9 +121,12 @@ impl Mistake {
             b'/' if others.first() == Some(&b'/') => Mistake::Comment,
             b' ' if others.iter().all(|other| *other == b' ') => Mistake::BlankAtEnd,
             b' ' if before.is_empty() => Mistake::BlankAtBegin,
+            b' ' if is_comment(others) => Mistake::Comment,
             b' ' if before.last() == Some(&b' ') => Mistake::TwoBlanks,
+            b' ' if before.last() == Some(&b'-') && state.takes_number() => Mistake::MinusApart,
             b'A'..=b'Z' => Mistake::Capital,
             b'*' | b'/' | b'%' => Mistake::Product,
+            b'(' | b')' => Mistake::Parenthesis,
             b'=' if before.last() == Some(&b'=') => Mistake::DoubledEquals,
             b'0'..=b'9' if state.takes_number() => Mistake::of_digit(before, byte),
             _ if is_name_byte(byte) && name_before(before) == LONGEST_NAME => Mistake::LongName,
@@ -98,20 +157,35 @@ impl Mistake {
     pub fn words(self) -> &'static str {
         match self {
             Mistake::ByteOrderMark =>
-                "a byte order mark stands before the text, and a log has none",
-            Mistake::EmptyLine => "the line is empty, and no line of a log is",
+                "a byte order mark precedes the text: remove it",
+            Mistake::EmptyLine => "the line is empty",
             Mistake::Comment =>
-                "a comment begins here, and a log has none; `./tidy` takes them out",
-            Mistake::Tab => "a tab stands here, and words are separated by one space",
-            Mistake::CarriageReturn => {
-                "a carriage return stands here, and a line ends with a newline alone"
+                "a comment begins here; `tidy` takes comments out",
+            Mistake::Tab => "tab: separate words by one space",
+            Mistake::CarriageReturn => "carriage return: a line ends with a newline alone",
+            Mistake::BlankAtBegin => "the line begins with a space",
+            Mistake::BlankAtEnd => "the line ends with a space",
+            Mistake::TwoBlanks => "two spaces: separate words by one",
+            Mistake::Capital => "names and words are lower-case",
+            Mistake::DoubledEquals => "equal is written `=`, not `==`",
+            Mistake::Unequal => {
+                "there is no `!=`: a condition compares by `<`, `<=`, `=`, `>=` or `>`"
             }
-            Mistake::BlankAtBegin => "a space stands at the line's begin",
-            Mistake::BlankAtEnd => "a space stands at the line's end",
-            Mistake::TwoBlanks => "two spaces stand here, and words are separated by one",
-            Mistake::Capital => "a capital letter stands here, and names and words have small ones",
-            Mistake::DoubledEquals => "`==` stands here, and equal is written `=`",
+            Mistake::Connective => {
+                "a condition is one comparison: write a `need` line for each condition"
+            }
+            Mistake::AddedTo => "`set` takes `=` and the whole new value",
+            Mistake::IfForWhen => "a condition follows `when`, not `if`",
+            Mistake::IfStatement => {
+                "there is no `if`: `need` aborts the transaction, `set .. when` writes on a condition"
+            }
+            Mistake::TestInGuard => {
+                "`when` takes a comparison: only `need` has `has` and `no`"
+            }
+            Mistake::Parenthesis => "a sum has no calls and no parentheses",
             Mistake::Product => "a sum adds and subtracts, and has no products and quotients",
+            Mistake::MinusApart => "the minus of a first number or name has no space after it",
+            Mistake::ForeignMinus => "this dash isn't the minus `-`",
             Mistake::LeadingZero => "a number has no zero before its other digits",
             Mistake::MinusZero => "0 has no minus",
             Mistake::LargeNumber => {
@@ -119,11 +193,26 @@ impl Mistake {
             }
             Mistake::LongName => "the name is too long: the longest have 32 bytes",
             Mistake::MissingEnd => "`end` is missing: the transaction before it isn't closed",
-            Mistake::ForeignByte => "a byte stands here that no log has",
+            Mistake::ForeignByte => "this byte can't occur here",
             Mistake::TooShort => "the line ends too soon",
             Mistake::Word => "",
         }
     }
+}
+
+/// The bytes up to the first space.
+fn first_word(bytes: &[u8]) -> &[u8] {
+    let end = bytes
+        .iter()
+        .position(|byte| *byte == b' ')
+        .unwrap_or(bytes.len());
+    bytes.get(..end).unwrap_or(bytes)
+}
+
+/// Whether a word joins two conditions in other languages.
+fn is_connective(word: &[u8]) -> bool {
+    let words: [&[u8]; 4] = [b"and", b"or", b"&&", b"||"];
+    words.iter().any(|other| *other == word)
 }
 
 /// The length of the name at the end of these bytes.

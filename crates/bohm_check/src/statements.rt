@@ -1,8 +1,8 @@
 //! Messages about the keys and sums of statements.
 
-use crate::cursor::Cursor;
 use crate::marking::{PlacedName, put_marked};
 use crate::names::{has, names_of};
+use crate::page::Page;
 use crate::sets::{in_order, keys_of, put_set_help};
 use crate::shown::{put_line, put_name, put_number, put_quoted, put_text};
 use crate::terms::{atoms_of, key_read, long_sum};
@@ -10,18 +10,33 @@ use bohm_log::{Keys, StmtView, TxnView};
 use bohm_types::{Key, MOST_TERMS, NoMemory};
 use std::alloc::Global;
 
-/// A text, with the line of the statement that a message is about, and of its transaction.
+/// A page, with the line of the statement that a message is about, and of its transaction. Lines are
+/// those of the document.
 #[derive(Clone, Copy)]
 pub struct Site<'a> {
-    pub text: Cursor<'a>,
+    pub page: Page<'a>,
     pub line: u64,
     /// The line of the transaction's opening.
     pub opening: u64,
 }
 
 impl<'a> Site<'a> {
-    pub fn shown(self) -> &'a [u8] {
-        self.text.line(self.line)
+    /// The statement's line in the document.
+    pub fn exact(self) -> &'a [u8] {
+        self.page.line(self.line)
+    }
+
+    /// The lines of the transaction's reads, of its writes, and of its statement at an index.
+    pub fn reads(self) -> u64 {
+        self.opening.saturating_add(1)
+    }
+
+    pub fn writes(self) -> u64 {
+        self.opening.saturating_add(2)
+    }
+
+    pub fn statement(self, index: usize) -> u64 {
+        self.opening.saturating_add(3).saturating_add(index as u64)
     }
 }
 
@@ -46,20 +61,21 @@ fn put_missing(
     let Some(first) = names.first() else {
         return Ok(());
     };
-    put_marked(out, site.shown(), *first)?;
+    let line = site.page.number(set.line);
+    put_marked(out, site.page, site.line, *first)?;
     put_name(out, first.name)?;
     put_text(out, set.are)?;
     put_text(out, " and isn't declared: line ")?;
-    put_number(out, set.line)?;
+    put_number(out, line)?;
     put_text(out, " has ")?;
-    put_quoted(out, site.text.line(set.line))?;
+    put_quoted(out, site.page.line(set.line))?;
     put_text(out, "\n")?;
     let mut keys = keys_of(alloc, &set.keys)?;
     for name in names {
         keys.push(name.name)?;
     }
     let keys = in_order(alloc, keys)?;
-    put_set_help(out, Some(set.line), set.word, keys.as_slice())
+    put_set_help(out, Some(line), set.word, keys.as_slice())
 }
 
 /// The keys that a statement reads and that aren't among these, and the key that it tests.
@@ -101,7 +117,7 @@ pub fn put_unread(
 ) -> Result<(), NoMemory> {
     let set = Declared {
         keys: txn.reads(),
-        line: site.opening.saturating_add(1),
+        line: site.reads(),
         word: "reads",
         are: " is read",
     };
@@ -122,7 +138,7 @@ pub fn put_unwritten(
     };
     let set = Declared {
         keys: txn.writes(),
-        line: site.opening.saturating_add(2),
+        line: site.writes(),
         word: "writes",
         are: " is written",
     };
@@ -136,7 +152,7 @@ pub fn put_unwritten(
 
 /// The message about a statement with too long a sum.
 pub fn put_long(out: &mut Vec<u8>, site: Site<'_>, stmt: &StmtView<'_>) -> Result<(), NoMemory> {
-    put_line(out, site.shown(), 1, 0)?;
+    put_line(out, site.page.shown(site.line), 1, 0)?;
     let terms = long_sum(stmt, MOST_TERMS as usize).unwrap_or(0);
     put_text(out, "a sum has at most ")?;
     put_number(out, MOST_TERMS)?;

@@ -1,12 +1,14 @@
 //! A valid log summarized in one line.
 
-ghost use Rattle.std.specs.Prelude.{◌≡◌, length, count_by, IfOk};
+ghost use Rattle.std.specs.Prelude.{◌≡◌, ◌++◌, ℕ, List, length, count_by, IfOk, OnOk};
+ghost use Rattle.bohm_types.specs.Keys.{is_among, names_of};
 ghost use Rattle.bohm_txn.specs.Sure.{is_sure};
+ghost use Rattle.bohm_check.specs.Distinct.{AreKeysOf, CountsKeys, is_declared};
 ghost use Rattle.bohm_check.specs.SummaryLine.{edition_words, summary_line};
 
 use crate::shown::{put_number, put_text};
 use bohm_log::LogPart;
-use bohm_txn::{Checked, sure};
+use bohm_txn::{Checked, add_keys, sort_keys, sure};
 use bohm_types::{Edition, Key, NoMemory, Value};
 use std::alloc::Global;
 
@@ -23,45 +25,55 @@ pub struct Summary {
     pub sure: usize,
 }
 
-/// Sets the marks at these numbers.
-fn mark(marks: &mut [bool], numbers: &[u32]) {
-    for number in numbers {
-        if let Some(mark) = marks.get_mut(*number as usize) {
-            *mark = true;
-        }
+/// The most names that are kept with repetitions, before there are more distinct ones.
+const FEW_NAMES: usize = 4096;
+
+/// Sorts the names and removes repetitions if there are as many as this, and returns how many there
+/// may be until the next time: twice as many as are left.
+fn shrink(names: &mut Vec<Key>, most: usize) -> usize
+    ensures { (k : List ℕ) → is_among names.new.items k ≡ is_among names.old.items k }
+{
+    if names.len() < most {
+        return most;
     }
+    sort_keys(names);
+    names.len().saturating_mul(2).max(FEW_NAMES)
 }
 
-/// The keys that the transactions declare, each once, in ascending order.
-fn declared_keys(alloc: Global, log: &LogPart<'_>) -> Result<Vec<Key>, NoMemory> {
-    let declared = log.keys();
-    let names = declared.names();
-    let mut marks = vec![in alloc; false; names.len()]?;
-    for index in 0..declared.len() {
-        let (reads, writes) = declared.sets(index);
-        mark(&mut marks, reads);
-        mark(&mut marks, writes);
+/// The keys that the transactions declare, some of them repeatedly.
+fn declared_names(alloc: Global, log: &LogPart<'_>) -> Result<Vec<Key>, NoMemory>
+    ensures { IfOk result
+        (λ names. (k : List ℕ) → is_among names.items k ≡ is_declared log.now k) }
+{
+    let mut names = Vec::new(alloc);
+    let mut most = FEW_NAMES;
+    for index in 0..log.len() {
+        let txn = log.txn(index);
+        add_keys(&mut names, &txn.reads())?;
+        add_keys(&mut names, &txn.writes())?;
+        most = shrink(&mut names, most);
     }
-    let mut keys = Vec::new(alloc);
-    let in_order = names.shared().iter().chain(names.own().iter());
-    for (name, is_declared) in in_order.zip(marks.iter()) {
-        if *is_declared {
-            keys.push(*name)?;
-        }
-    }
-    keys.sort()?;
-    Ok(keys)
+    Ok(names)
 }
 
-/// The number of entries whose key isn't among these sorted keys.
-fn count_others(store: &[(Key, Value)], keys: &[Key]) -> usize {
-    let mut others: usize = 0;
-    for (key, _) in store {
-        if keys.binary_search(key).is_err() {
-            others = others.saturating_add(1);
-        }
+/// Appends the keys of entries.
+fn add_entry_names(names: &mut Vec<Key>, store: &[(Key, Value)]) -> Result<(), NoMemory>
+    ensures { OnOk result (names.new.items ≡ names.old.items ++ names_of store.now) }
+{
+    for entry in store {
+        names.push(entry.0)?;
     }
-    others
+    Ok(())
+}
+
+/// The keys of the store and those that the transactions declare, each once, in ascending order.
+fn all_names(alloc: Global, checked: &Checked) -> Result<Vec<Key>, NoMemory>
+    ensures { IfOk result (λ names. AreKeysOf checked.now names.items) }
+{
+    let mut names = declared_names(alloc, &checked.log())?;
+    add_entry_names(&mut names, checked.store())?;
+    sort_keys(&mut names);
+    Ok(names)
 }
 
 /// The number of sure transactions.
@@ -87,24 +99,22 @@ fn edition_words(edition: Edition) -> &'static str
 }
 
 impl Summary {
-    /// The summary of a checked log. The time grows with the number k of its keys as k log k, and
-    /// with its transactions; the memory with the keys.
+    /// The summary of a checked log. The time grows with the number k of its keys and declarations as
+    /// k log k, the memory with its distinct keys.
     pub fn of(alloc: Global, checked: &Checked) -> Result<Summary, NoMemory>
         ensures edition { IfOk result (λ s. s.edition ≡ checked.now.edition) }
         ensures keys { IfOk result (λ s. s.keys ≡ length checked.now.store) }
         ensures transactions { IfOk result (λ s. s.transactions ≡ length checked.now.log) }
+        ensures distinct { IfOk result (λ s. CountsKeys checked.now s.distinct) }
         ensures sure { IfOk result (λ s. s.sure ≡ count_by is_sure checked.now.log) }
     {
         let log = checked.log();
-        let declared = declared_keys(alloc, &log)?;
-        let store = checked.store();
+        let names = all_names(alloc, checked)?;
         Ok(Summary {
             edition: checked.edition(),
-            keys: store.len(),
+            keys: checked.store().len(),
             transactions: log.len(),
-            distinct: declared
-                .len()
-                .saturating_add(count_others(store, declared.as_slice())),
+            distinct: names.len(),
             sure: count_sure(&log),
         })
     }

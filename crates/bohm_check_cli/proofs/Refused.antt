@@ -1,15 +1,40 @@
--- A run's refusal of a log is one of its check.
-use Rattle.std.proofs.Common.{List, ℕ}
+-- Refusals of the check, by what is refused.
+use Rattle.std.proofs.Common.{◌≡◌, List, ℕ, refl, inl, inr}
 use Rattle.std.specs.Prelude.{Option, None}
 use Rattle.bohm_settings.specs.Given.{Given}
+use Rattle.bohm_answer.specs.Bytes.{ReadsAll}
+use Rattle.bohm_report.specs.Refused.{RunRefuses}
 use Rattle.bohm_run.specs.Headline.{IsBeforeWriting, Refuses}
+use Rattle.bohm_text.specs.Cut.{whole_lines}
+use Rattle.bohm_text.specs.ProcedureFaults.{IsFirstBadLine, IsShort}
+use Rattle.bohm_txn.specs.declared.fault.CheckFault.{CheckFault}
+use Rattle.bohm_procedures.specs.Accepting.{IsRefusedBy}
+use Rattle.bohm_procedures.specs.declared.fault.ProcedureFault.{ProcedureFault}
+use Rattle.bohm_procedures.specs.declared.fault.ProcedureFault.TheVariants as faults
 use Rattle.bohm_answer.specs.declared.fault.RunFault.{RunFault}
 use Rattle.bohm_answer.specs.declared.fault.RunFault.TheVariants.{Read, TooLong, Text, Check, Trimmed, Future, NoMemory, Write}
-use Rattle.bohm_check_cli.specs.Checking.{RefusesLog}
+use Rattle.bohm_check_cli.specs.Checking.{RefusesProcedure, RefusesText, RefusesToTell, procedure_refusal}
+
+-- a run's refusal of a log, and the library's of a procedure
+pub of_log : (text : List ℕ) (fault : RunFault) → RunRefuses text fault → (unread unread' : Option (List ℕ)) → ReadsAll unread unread' text
+    → RefusesText unread unread' fault
+of_log text fault refuses unread unread' read = inl (λ given. refuses given unread unread' read)
+
+pub of_procedure : (text : List ℕ) (fault : RunFault) → RefusesProcedure text fault → (unread unread' : Option (List ℕ)) → ReadsAll unread unread' text
+    → RefusesText unread unread' fault
+of_procedure text fault refuses unread unread' read = inr (record { text = text; read = read; refuses = refuses })
+
+pub refused : (text : List ℕ) (fault : ProcedureFault) → ((n : ℕ) → fault ≡ faults.Line n → IsFirstBadLine (whole_lines text) n)
+    → (fault ≡ faults.Short → IsShort text) → ((f : CheckFault) → fault ≡ faults.Check f → IsRefusedBy text f)
+    → RefusesProcedure text (procedure_refusal fault)
+refused text (faults.Line n) line short check = line n refl
+refused text faults.Short line short check = short refl
+refused text (faults.Check f) line short check = check f refl
+refused text faults.NoMemory line short check = tt
 
 -- refusals before anything is written
-pub before_writing : (unread unread' written written' : Option (List ℕ)) (fault : RunFault) → IsBeforeWriting fault
-    → ((given : Given) → Refuses given unread unread' None None fault) → RefusesLog unread unread' written written' fault
+pub before_writing : (unread unread' written written' : Option (List ℕ)) (fault : RunFault) → IsBeforeWriting fault → RefusesText unread unread' fault
+    → RefusesToTell unread unread' written written' fault
 before_writing unread unread' written written' Read before refuses = refuses
 before_writing unread unread' written written' TooLong before refuses = refuses
 before_writing unread unread' written written' (Text fault) before refuses = refuses

@@ -1,40 +1,107 @@
 -- What the program reads, writes and refuses.
-use Rattle.std.specs.Prelude.{◌≡◌, ℕ, List, length, count_by, Option, None}
+use Rattle.std.specs.Prelude.{◌≡◌, ◌⊎◌, ℕ, List, length, count_by, Option, None}
 use Rattle.std.specs.Io.KnownBytes.{Appends}
 use Rattle.bohm_types.specs.Document.{Document}
+use Rattle.bohm_types.specs.Procedure.{Procedure}
+use Rattle.bohm_types.specs.Sound.{IsDocument}
+use Rattle.bohm_text.specs.Cut.{whole_lines}
+use Rattle.bohm_text.specs.Print.{print_doc}
+use Rattle.bohm_text.specs.ProcedureFaults.{IsFirstBadLine, IsShort}
+use Rattle.bohm_text.specs.ProcedureText.{IsProcedure, print_procedure}
+use Rattle.bohm_text.specs.declared.fault.TextFault.TheVariants as texts
+use Rattle.bohm_txn.specs.Faulty.{WellFormed}
 use Rattle.bohm_txn.specs.Sure.{is_sure}
+use Rattle.bohm_procedures.specs.Accepting.{IsAccepted, IsRefusedBy}
+use Rattle.bohm_procedures.specs.declared.fault.ProcedureFault.{ProcedureFault}
+use Rattle.bohm_procedures.specs.declared.fault.ProcedureFault.TheVariants as faults
 use Rattle.bohm_settings.specs.Given.{Given}
-use Rattle.bohm_answer.specs.Bytes.{Sends}
-use Rattle.bohm_run.specs.Headline.{ReadsDocument, Refuses}
+use Rattle.bohm_answer.specs.Bytes.{ReadsAll, Sends}
+use Rattle.bohm_run.specs.Headline.{Refuses}
 use Rattle.bohm_answer.specs.declared.fault.RunFault.{RunFault}
-use Rattle.bohm_answer.specs.declared.fault.RunFault.TheVariants.{Write}
-use Rattle.bohm_check.specs.SummaryLine.{summary_line}
+use Rattle.bohm_answer.specs.declared.fault.RunFault.TheVariants.{Read, TooLong, Text, Check, Trimmed, Future, NoMemory, Write}
+use Rattle.bohm_check.specs.SummaryLine.{summary_line, procedure_line}
 use Rattle.bohm_check.specs.declared.summary.Summary.{Summary}
+use Rattle.bohm_check.specs.declared.procedure_report.ProcedureSummary.{ProcedureSummary}
 
--- the summary's edition and counts are the document's; this says nothing about `distinct`
-pub record Holds (document : Document) (summary : Summary) : Type 0 where
+-- ---- good texts
+
+-- the text of a well-formed document, and its summary line; this says nothing about `distinct`
+pub record IsGoodLog (text line : List ℕ) : Type 0 where
+  pub document : Document
+  pub sound : IsDocument document
+  pub well_formed : WellFormed document
+  pub prints : print_doc document ≡ text
+  pub summary : Summary
   pub edition : summary.edition ≡ document.edition
   pub keys : summary.keys ≡ length document.store
   pub transactions : summary.transactions ≡ length document.log
   pub sure : summary.sure ≡ count_by is_sure document.log
+  pub is : line ≡ summary_line summary
 
--- a well-formed document was read to the reader's end, and only its summary line was written
+-- the text of an accepted procedure, and its summary line; this says nothing about `statements`
+pub record IsGoodProcedure (text line : List ℕ) : Type 0 where
+  pub procedure : Procedure
+  pub sound : IsProcedure procedure
+  pub accepted : IsAccepted procedure
+  pub prints : print_procedure procedure ≡ text
+  pub summary : ProcedureSummary
+  pub edition : summary.edition ≡ procedure.edition
+  pub keys : summary.keys ≡ length procedure.keys
+  pub values : summary.values ≡ length procedure.values
+  pub is : line ≡ procedure_line summary
+
+abbrev pub IsGood : List ℕ → List ℕ → Type 0
+IsGood text line = IsGoodLog text line ⊎ IsGoodProcedure text line
+
+-- a good text was read to the reader's end, and only its summary line was written
 pub record Tells (unread unread' written written' : Option (List ℕ)) : Type 0 where
-  pub document : Document
-  pub read : ReadsDocument unread unread' document
-  pub summary : Summary
-  pub holds : Holds document summary
-  pub wrote : Appends written written' (summary_line summary)
+  pub text : List ℕ
+  pub read : ReadsAll unread unread' text
+  pub line : List ℕ
+  pub good : IsGood text line
+  pub wrote : Appends written written' line
 
--- a well-formed document was read to the reader's end, and the first bytes of its summary line were written
+-- a good text was read to the reader's end, and the first bytes of its summary line were written
 pub record StopsTelling (unread unread' written written' : Option (List ℕ)) (sent : ℕ) : Type 0 where
-  pub document : Document
-  pub read : ReadsDocument unread unread' document
-  pub summary : Summary
-  pub holds : Holds document summary
-  pub wrote : Sends written written' (summary_line summary) sent
+  pub text : List ℕ
+  pub read : ReadsAll unread unread' text
+  pub line : List ℕ
+  pub good : IsGood text line
+  pub wrote : Sends written written' line sent
 
--- what each refusal means: before writing, what it means of a run with any settings
-abbrev pub RefusesLog : Option (List ℕ) → Option (List ℕ) → Option (List ℕ) → Option (List ℕ) → RunFault → Type 0
-RefusesLog unread unread' written written' (Write sent) = StopsTelling unread unread' written written' sent
-RefusesLog unread unread' written written' fault = (given : Given) → Refuses given unread unread' None None fault
+-- ---- refusals
+
+-- the refusal of a procedure
+abbrev pub procedure_refusal : ProcedureFault → RunFault
+procedure_refusal (faults.Line n) = Text (texts.Line n)
+procedure_refusal faults.Short = Text texts.Short
+procedure_refusal (faults.Check fault) = Check fault
+procedure_refusal faults.NoMemory = NoMemory
+
+-- why a text isn't that of an accepted procedure
+abbrev pub RefusesProcedure : List ℕ → RunFault → Type 0
+RefusesProcedure text Read = ⊥
+RefusesProcedure text TooLong = ⊥
+RefusesProcedure text (Text (texts.Line n)) = IsFirstBadLine (whole_lines text) n
+RefusesProcedure text (Text texts.Short) = IsShort text
+RefusesProcedure text (Text texts.NoMemory) = ⊥
+RefusesProcedure text (Check fault) = IsRefusedBy text fault
+RefusesProcedure text Trimmed = ⊥
+RefusesProcedure text Future = ⊥
+RefusesProcedure text NoMemory = Unit {0}
+RefusesProcedure text (Write sent) = ⊥
+
+-- what was read to the reader's end is refused as a procedure
+pub record ReadsNoProcedure (unread unread' : Option (List ℕ)) (fault : RunFault) : Type 0 where
+  pub text : List ℕ
+  pub read : ReadsAll unread unread' text
+  pub refuses : RefusesProcedure text fault
+
+-- a refusal before writing: what it means of a run with any settings, or of a procedure
+abbrev pub RefusesText : Option (List ℕ) → Option (List ℕ) → RunFault → Type 0
+RefusesText unread unread' fault = ((given : Given) → Refuses given unread unread' None None fault) ⊎ ReadsNoProcedure unread unread' fault
+
+-- what each refusal means
+abbrev pub RefusesToTell : Option (List ℕ) → Option (List ℕ) → Option (List ℕ) → Option (List ℕ) → RunFault → Type 0
+RefusesToTell unread unread' written written' (Write sent) = StopsTelling unread unread' written written' sent
+RefusesToTell unread unread' written written' fault = RefusesText unread unread' fault

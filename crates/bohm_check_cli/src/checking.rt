@@ -1,20 +1,78 @@
-//! A log's check from bytes to bytes.
+//! A check of a log or of a procedure, from bytes to bytes.
 
-ghost use Rattle.std.specs.Prelude.{◌≡◌, OnOk, IfErr};
-ghost use Rattle.bohm_check_cli.specs.Checking.{RefusesLog, Tells};
+ghost use Rattle.std.specs.Prelude.{◌≡◌, OnOk, IfErr, IfOk, None, ℕ, List, Option};
+ghost use Rattle.bohm_answer.specs.Bytes.{ReadsAll};
+ghost use Rattle.bohm_check_cli.specs.Checking.{IsGood, IsGoodLog, IsGoodProcedure};
+ghost use Rattle.bohm_check_cli.specs.Checking.{RefusesProcedure, RefusesText, RefusesToTell, Tells};
+ghost use Rattle.bohm_check_cli.specs.Checking.{procedure_refusal};
+ghost use Rattle.bohm_report.specs.Refused.{RunRefuses};
 ghost use Rattle.bohm_run.specs.Headline.{IsBeforeWriting};
 
-use bohm_answer::{RunFault, write_all};
-use bohm_check::Summary;
-use bohm_report::read_reported;
+use bohm_answer::{RunFault, read_all, write_all};
+use bohm_check::{ProcedureSummary, Summary, check_procedure, is_procedure, put_notes};
+use bohm_log::DrawnSeed;
+use bohm_procedures::ProcedureFault;
+use bohm_report::check_reported;
+use bohm_text::TextFault;
 use std::alloc::Global;
 use std::io::{Read, Write};
 use std::random::RandomSource;
 
-/// Reads a log to the reader's end, and writes only its summary line. It refuses what a run
-/// refuses, and reports a failed write, as a run does. Messages for people about why a log is
-/// refused are added to the report, as long as allocations succeed.
-pub fn check_log<T: RandomSource, R: Read, W: Write>(
+/// The summary line of a log's text.
+fn log_line<T: RandomSource>(
+    rt: &T,
+    alloc: Global,
+    text: &[u8],
+    report: &mut Vec<u8>,
+) -> Result<Vec<u8>, RunFault>
+    ensures good { IfOk result (λ line. IsGoodLog text.now line.items) }
+    ensures err { IfErr result (RunRefuses text.now) }
+    ensures before { IfErr result IsBeforeWriting }
+{
+    let checked = check_reported(rt, alloc, text, report)?;
+    let summary = Summary::of(alloc, &checked)?;
+    Ok(summary.print(alloc)?)
+}
+
+/// The refusal of a procedure's text.
+fn refusal_of(fault: ProcedureFault) -> RunFault
+    ensures is { result ≡ procedure_refusal fault }
+    ensures before { IsBeforeWriting result }
+{
+    match fault {
+        ProcedureFault::Line(n) => RunFault::Text(TextFault::Line(n)),
+        ProcedureFault::Short => RunFault::Text(TextFault::Short),
+        ProcedureFault::Check(fault) => RunFault::Check(fault),
+        ProcedureFault::NoMemory => RunFault::NoMemory,
+    }
+}
+
+/// The summary line of a procedure's text.
+fn procedure_line<T: RandomSource>(
+    rt: &T,
+    alloc: Global,
+    text: &[u8],
+    report: &mut Vec<u8>,
+) -> Result<Vec<u8>, RunFault>
+    ensures good { IfOk result (λ line. IsGoodProcedure text.now line.items) }
+    ensures err { IfErr result (RefusesProcedure text.now) }
+    ensures before { IfErr result IsBeforeWriting }
+{
+    let seed = DrawnSeed::draw(rt);
+    match check_procedure(alloc, seed, text, report) {
+        Ok(procedure) => {
+            let _ = put_notes(alloc, seed, text, report);
+            Ok(ProcedureSummary::of(&procedure, text).print(alloc)?)
+        }
+        Err(fault) => Err(refusal_of(fault)),
+    }
+}
+
+/// Reads a log or a procedure to the reader's end, and writes only its summary line. It refuses a log
+/// as a run does, and a procedure as the library does, and reports a failed write as a run does.
+/// Messages for people about why a text is refused are added to the report, and a note on a procedure
+/// of edition 1 that may lose a write, as long as allocations succeed.
+pub fn check_text<T: RandomSource, R: Read, W: Write>(
     rt: &T,
     alloc: Global,
     reader: &mut R,
@@ -24,16 +82,33 @@ pub fn check_log<T: RandomSource, R: Read, W: Write>(
     ensures ok { OnOk result
         (Tells (R.remaining reader.old) (R.remaining reader.new) (W.contents writer.old)
         (W.contents writer.new)) }
-    ensures silent { OnOk result (report.new ≡ report.old) }
     ensures err { IfErr result
-        (RefusesLog (R.remaining reader.old) (R.remaining reader.new) (W.contents writer.old)
+        (RefusesToTell (R.remaining reader.old) (R.remaining reader.new) (W.contents writer.old)
         (W.contents writer.new)) }
 
     // If the fault isn't a failed write, the writer is untouched.
     ensures untouched { IfErr result (λ e. IsBeforeWriting e → writer.new ≡ writer.old) }
 {
-    let checked = read_reported(rt, alloc, reader, report)?;
-    let summary = Summary::of(alloc, &checked)?;
-    let line = summary.print(alloc)?;
+    let text = read_all(alloc, reader)?;
+    let line = answer_line(rt, alloc, text.as_slice(), report)?;
     write_all(writer, line.as_slice())
+}
+
+/// The summary line of a log's or a procedure's text.
+fn answer_line<T: RandomSource>(
+    rt: &T,
+    alloc: Global,
+    text: &[u8],
+    report: &mut Vec<u8>,
+) -> Result<Vec<u8>, RunFault>
+    ensures good { IfOk result (λ line. IsGood text.now line.items) }
+    ensures err { IfErr result (λ e. (unread unread' : Option (List ℕ))
+        → ReadsAll unread unread' text.now → RefusesText unread unread' e) }
+    ensures before { IfErr result IsBeforeWriting }
+{
+    if is_procedure(text) {
+        procedure_line(rt, alloc, text, report)
+    } else {
+        log_line(rt, alloc, text, report)
+    }
 }

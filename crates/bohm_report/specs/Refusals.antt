@@ -1,5 +1,5 @@
 -- Why a text is refused.
-use Rattle.std.specs.Prelude.{◌≡◌, ℕ, List}
+use Rattle.std.specs.Prelude.{◌≡◌, ℕ, List, take}
 use Rattle.bohm_types.specs.Document.{Document}
 use Rattle.bohm_types.specs.Sound.{IsDocument}
 use Rattle.bohm_text.specs.Cut.{whole_lines}
@@ -8,6 +8,8 @@ use Rattle.bohm_text.specs.Print.{print_doc}
 use Rattle.bohm_text.specs.declared.fault.TextFault.TheVariants as texts
 use Rattle.bohm_txn.specs.declared.fault.CheckFault.{CheckFault}
 use Rattle.bohm_txn.specs.Faulty.{IsFirstFault}
+use Rattle.bohm_check.specs.All.{doc_told, most_told}
+use Rattle.bohm_check.specs.Reports.{ReportsSome}
 use Rattle.bohm_report.specs.declared.refusal.Refusal.{Refusal}
 use Rattle.bohm_report.specs.declared.refusal.Refusal.TheVariants.{Text, Check, NoMemory}
 
@@ -38,3 +40,10 @@ Refuses text (Text texts.Short) = IsShort text
 Refuses text (Text texts.NoMemory) = ⊥
 Refuses text (Check fault) = IsFaulty text fault
 Refuses text NoMemory = Unit {0}
+
+-- the messages about the first faults of the text's document were added: for each its head, and words
+pub record IsReported (text old new : List ℕ) : Type 0 where
+  pub document : Document
+  pub sound : IsDocument document
+  pub print : print_doc document ≡ text
+  pub some : ReportsSome (take most_told (doc_told document)) old new

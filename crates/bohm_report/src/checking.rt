@@ -1,13 +1,17 @@
 //! Checks a text and reports its faults.
 
-ghost use Rattle.std.specs.Prelude.{◌≡◌, OnOk, IfOk, IfErr};
+ghost use Rattle.std.specs.Prelude.{◌≡◌, take, Err, OnOk, IfOk, IfErr};
+ghost use Rattle.bohm_check.specs.All.{doc_told};
+ghost use Rattle.bohm_check.specs.Reports.{ReportsSome};
+ghost use Rattle.bohm_txn.specs.declared.fault.CheckFault.{CheckFault};
+ghost use Rattle.bohm_report.specs.declared.refusal.Refusal.TheVariants.{Check};
 ghost use Rattle.bohm_types.specs.Sound.{IsDocument};
 ghost use Rattle.bohm_text.specs.Print.{print_doc};
 ghost use Rattle.bohm_txn.specs.Faulty.{WellFormed};
-ghost use Rattle.bohm_report.specs.Refusals.{RefusesDocument, RefusesText, Refuses};
+ghost use Rattle.bohm_report.specs.Refusals.{IsReported, RefusesDocument, RefusesText, Refuses};
 
 use crate::refusal::Refusal;
-use bohm_check::{faults, put_faults, put_text_fault};
+use bohm_check::{MOST_TOLD, Page, faults, put_faults, put_text_fault};
 use bohm_log::{Doc, DrawnSeed};
 use bohm_text::{TextFault, parse_with_seed};
 use bohm_txn::{Checked, check};
@@ -48,11 +52,13 @@ fn check_document(
     ensures well_formed { IfOk result WellFormed }
     ensures silent { OnOk result (report.new ≡ report.old) }
     ensures err { IfErr result (RefusesDocument doc) }
+    ensures reported { (f : CheckFault) → result ≡ Err (Check f)
+        → ReportsSome (take MOST_TOLD (doc_told doc)) report.old.items report.new.items }
 {
     let told = faults(alloc, &doc)?;
     match told.as_slice() {
         [first, ..] => {
-            let _ = put_faults(alloc, report, &doc, text, told.as_slice());
+            put_faults(alloc, report, &doc, Page::of(text), told.as_slice());
             Err(Refusal::Check(first.fault))
         }
         [] => match check(doc) {
@@ -79,6 +85,8 @@ pub fn check_text(
     ensures well_formed { IfOk result WellFormed }
     ensures silent { OnOk result (report.new ≡ report.old) }
     ensures err { IfErr result (Refuses text.now) }
+    ensures reported { (f : CheckFault) → result ≡ Err (Check f)
+        → IsReported text.now report.old.items report.new.items }
 {
     let doc = read_document(alloc, seed, text, report)?;
     let checked = check_document(alloc, doc, text, report)?;

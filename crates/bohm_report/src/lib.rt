@@ -5,4 +5,4 @@ mod checking;
 mod reading;
 mod refusal;
 
-pub use reading::read_reported;
+pub use reading::{check_reported, read_reported};

@@ -9,7 +9,7 @@ use Rattle.bohm_text.specs.Cut.{split}
 use Rattle.bohm_text.proofs.ForCallers.{IsCutAt, cut_from}
 use Rattle.bohm_tidy.specs.declared.line.Gap.{Gap}
 use Rattle.bohm_tidy.specs.Plain.{Written, added, fed, fed_all, filled, with_line}
-use Rattle.bohm_tidy.specs.Line.{cut_text, shown, apart, gap_text, next_gap, joined}
+use Rattle.bohm_tidy.specs.Line.{cut_text, shown, apart, next_gap, joined, sign_alone, word_text}
 
 pub apart_more : (signs : Bool) (before : ℕ) (bs : List ℕ) (i b : ℕ) (out longer whole : List ℕ) → drop i bs ≡ b ∷ drop (i + 1) bs → longer
     ≡ out ++ (cut_text signs before b ++ shown b ∷ []) → out ++ apart signs before (drop i bs) ≡ whole → longer ++ apart signs b (drop (i + 1) bs) ≡ whole
@@ -24,7 +24,7 @@ pub none_left : (n : ℕ) → true ≡ (n == 0) → n ≡ 0
 none_left n e = eqb-true n 0 (sym e)
 
 joined_word : (signs : Bool) (gap : Gap) (w : List ℕ) (ws : List (List ℕ)) → 0 < length w
-    → joined signs gap (w ∷ ws) ≡ (gap_text gap ++ w) ++ joined signs (next_gap gap signs w) ws
+    → joined signs gap (w ∷ ws) ≡ word_text gap signs w ++ joined signs (next_gap gap signs w) ws
 unfolding joined
 joined_word signs gap [] ws some = absurd (omega (arith, some))
 joined_word signs gap (b ∷ bs) ws some = refl
@@ -35,13 +35,12 @@ joined_none signs gap [] ws none = refl
 joined_none signs gap (b ∷ bs) ws none = absurd (omega (arith, none))
 
 pub joined_more : (signs : Bool) (gap : Gap) (w : List ℕ) (ws old : List (List ℕ)) (out longer whole : List ℕ) → old ≡ w ∷ ws → 0 < length w
-    → longer ≡ out ++ gap_text gap ++ w → out ++ joined signs gap old ≡ whole → longer ++ joined signs (next_gap gap signs w) ws ≡ whole
+    → longer ≡ out ++ word_text gap signs w → out ++ joined signs gap old ≡ whole → longer ++ joined signs (next_gap gap signs w) ws ≡ whole
 joined_more signs gap w ws old out longer whole at some more so_far =
     let rest : List ℕ = joined signs (next_gap gap signs w) ws in
     ap (λ (ys : List ℕ). ys ++ rest) more
-    ∙ append_assoc (out ++ gap_text gap) w rest
-    ∙ append_assoc out (gap_text gap) (w ++ rest)
-    ∙ ap (λ (ys : List ℕ). out ++ ys) (sym (append_assoc (gap_text gap) w rest) ∙ sym (joined_word signs gap w ws some) ∙ ap (joined signs gap) (sym at))
+    ∙ append_assoc out (word_text gap signs w) rest
+    ∙ ap (λ (ys : List ℕ). out ++ ys) (sym (joined_word signs gap w ws some) ∙ ap (joined signs gap) (sym at))
     ∙ so_far
 
 pub joined_skip : (signs : Bool) (gap : Gap) (w : List ℕ) (ws old : List (List ℕ)) (out whole : List ℕ) → old ≡ w ∷ ws → length w ≡ 0
@@ -49,9 +48,10 @@ pub joined_skip : (signs : Bool) (gap : Gap) (w : List ℕ) (ws old : List (List
 joined_skip signs gap w ws old out whole at none so_far =
     ap (λ (ys : List ℕ). out ++ ys) (sym (joined_none signs gap w ws none) ∙ ap (joined signs gap) (sym at)) ∙ so_far
 
-pub joined_end : (signs : Bool) (gap : Gap) (old : List (List ℕ)) (out whole : List ℕ) → old ≡ [] → out ++ joined signs gap old ≡ whole → out ≡ whole
+pub joined_end : (signs : Bool) (gap : Gap) (old : List (List ℕ)) (out longer whole : List ℕ) → old ≡ [] → longer ≡ out ++ sign_alone gap
+    → out ++ joined signs gap old ≡ whole → longer ≡ whole
 unfolding joined
-joined_end signs gap old out whole at so_far = sym (append-nil out) ∙ ap (λ (ws : List (List ℕ)). out ++ joined signs gap ws) (sym at) ∙ so_far
+joined_end signs gap old out longer whole at more so_far = more ∙ ap (λ (ws : List (List ℕ)). out ++ joined signs gap ws) (sym at) ∙ so_far
 
 -- ---- the lines of a text
 

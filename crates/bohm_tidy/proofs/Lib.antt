@@ -6,3 +6,4 @@ mod Exact
 mod Settling
 mod Readings
 mod TidyLaws
+mod Marks

@@ -1,11 +1,11 @@
 -- How a loosely written line is read: the line that an exact text has instead.
-use Rattle.std.specs.Prelude.{ℕ, List, [], ◌∷◌, ◌++◌, Bool, false, ◌||◌, ◌&&◌, ◌==◌}
-use Rattle.std.specs.Prelude.{Option, Some, None, if◌then◌else◌, codes, take, drop, length, ◌-◌}
+use Rattle.std.specs.Prelude.{ℕ, List, [], ◌∷◌, ◌++◌, Bool, true, false, ◌||◌, ◌&&◌, ◌==◌}
+use Rattle.std.specs.Prelude.{Option, Some, None, if◌then◌else◌, codes, take, drop, length, ◌-◌, not}
 use Rattle.std.specs.List.{position_from}
 use Rattle.std.specs.Str.{bytes_eq}
 use Rattle.bohm_text.specs.Cut.{split}
 use Rattle.bohm_tidy.specs.declared.line.Gap.{Gap}
-use Rattle.bohm_tidy.specs.declared.line.Gap.TheVariants.{Start, Sum, Minus, Atom}
+use Rattle.bohm_tidy.specs.declared.line.Gap.TheVariants.{Start, Sum, First, Further, Atom}
 
 -- ---- the part of a line that counts
 
@@ -45,28 +45,65 @@ apart signs before (b ∷ bs) = (cut_text signs before b ++ shown b ∷ []) ++ a
 
 -- ---- the exact line
 
-unfoldable pub gap_behind : List ℕ → Gap
-gap_behind [] = Atom
-gap_behind (b ∷ bs) = if is_sign b then Sum else Atom
+abbrev pub is_minus : List ℕ → Bool
+is_minus word = bytes_eq word (codes "-")
 
--- the gap after a word. A `when` after an atom ends a sum; a minus without an atom before it belongs to a first term
+abbrev pub is_plus : List ℕ → Bool
+is_plus word = bytes_eq word (codes "+")
+
+unfoldable pub starts_sign : List ℕ → Bool
+starts_sign [] = false
+starts_sign (b ∷ bs) = is_sign b
+
+unfoldable pub gap_behind : List ℕ → Gap
+gap_behind word = if starts_sign word then Sum else Atom
+
+-- the gap after a word. A `when` after an atom ends a sum. The sign of a term waits for the term: two minus signs are a plus
 unfoldable pub next_gap : Gap → Bool → List ℕ → Gap
 next_gap Start signs word = if signs then Sum else Atom
-next_gap Sum signs word = if bytes_eq word (codes "-") then Minus else gap_behind word
-next_gap Minus signs word = gap_behind word
-next_gap Atom signs word = if bytes_eq word (codes "when") then Sum else gap_behind word
+next_gap Sum signs word = if is_minus word then First true else gap_behind word
+next_gap (First taken) signs word = if is_minus word then First (not taken) else gap_behind word
+next_gap (Further taken) signs word = if is_minus word then Further (not taken) else gap_behind word
+next_gap Atom signs word =
+    if signs && is_minus word then Further true
+    else (if signs && is_plus word then Further false else (if bytes_eq word (codes "when") then Sum else gap_behind word))
 
-abbrev pub gap_text : Gap → List ℕ
-gap_text Start = []
-gap_text Sum = 32 ∷ []
-gap_text Minus = []
-gap_text Atom = 32 ∷ []
+-- the word is a sign that waits for its term
+abbrev pub is_held_back : Gap → Bool → List ℕ → Bool
+is_held_back Start signs word = false
+is_held_back Sum signs word = is_minus word
+is_held_back (First taken) signs word = is_minus word
+is_held_back (Further taken) signs word = is_minus word
+is_held_back Atom signs word = signs && (is_minus word || is_plus word)
+
+-- 0 is added, not taken away
+abbrev pub is_taken : Bool → List ℕ → Bool
+is_taken taken word = taken && not (bytes_eq word (codes "0"))
+
+-- what precedes a word
+unfoldable pub sign_before : Gap → List ℕ → List ℕ
+sign_before Start word = []
+sign_before Sum word = codes " "
+sign_before (First taken) word = if is_taken taken word then (if starts_sign word then codes " - " else codes " -") else codes " "
+sign_before (Further taken) word = if is_taken taken word then codes " - " else codes " + "
+sign_before Atom word = codes " "
+
+abbrev pub word_text : Gap → Bool → List ℕ → List ℕ
+word_text gap signs word = if is_held_back gap signs word then [] else sign_before gap word ++ word
+
+-- a sign that no term follows
+abbrev pub sign_alone : Gap → List ℕ
+sign_alone Start = []
+sign_alone Sum = []
+sign_alone (First taken) = if taken then codes " -" else []
+sign_alone (Further taken) = if taken then codes " -" else codes " +"
+sign_alone Atom = []
 
 -- the words that aren't empty, with the gaps of an exact line
 unfoldable pub joined : Bool → Gap → List (List ℕ) → List ℕ
-joined signs gap [] = []
+joined signs gap [] = sign_alone gap
 joined signs gap ([] ∷ words) = joined signs gap words
-joined signs gap ((b ∷ bs) ∷ words) = gap_text gap ++ (b ∷ bs) ++ joined signs (next_gap gap signs (b ∷ bs)) words
+joined signs gap ((b ∷ bs) ∷ words) = word_text gap signs (b ∷ bs) ++ joined signs (next_gap gap signs (b ∷ bs)) words
 
 -- the line of an exact text: empty if the line has no words
 abbrev pub exact_line : Bool → List ℕ → List ℕ

@@ -1,14 +1,19 @@
 -- How a loosely written text is read, and its exact text.
-use Rattle.std.specs.Prelude.{◌≡◌, ◌≢◌, ◌⊎◌, ℕ, List, [], Bool, true, Option, Some, None}
+use Rattle.std.specs.Prelude.{◌≡◌, ◌≢◌, ◌⊎◌, ◌<◌, ◌≤◌, ℕ, List, [], Bool, true, Option, Some, None, length}
 use Rattle.std.specs.List.{AllByRecursion, IsDistinct}
 use Rattle.std.specs.Str.{bytes_eq}
 use Rattle.bohm_types.specs.Document.{Document}
 use Rattle.bohm_types.specs.Keys.{names_of, rising}
+use Rattle.bohm_types.specs.Procedure.{Procedure}
 use Rattle.bohm_types.specs.Sound.{IsDocument}
 use Rattle.bohm_types.specs.Txn.{Txn}
 use Rattle.bohm_text.specs.Print.{print_doc}
+use Rattle.bohm_text.specs.ProcedureText.{IsProcedure, print_procedure}
+use Rattle.bohm_text.specs.Cut.{split}
 use Rattle.bohm_tidy.specs.Plain.{written}
 use Rattle.bohm_tidy.specs.Settled.{settled}
+use Rattle.bohm_tidy.specs.declared.fault.TidyFault.{TidyFault}
+use Rattle.bohm_tidy.specs.declared.fault.TidyFault.TheVariants.{Line, Short, Twice, NoMemory}
 
 -- a document with its keys in any order, and for each of its transactions whether its reads, and its writes, are missing
 pub record Loose : Type 0 where
@@ -55,6 +60,44 @@ pub record IsTidiedByLines (text exact : List ℕ) : Type 0 where
   pub distinct : IsDistinct bytes_eq (names_of loose.document.store)
   pub read : IsByLines text loose
   pub is : exact ≡ settled_text loose
+
+-- a procedure's text
+pub record IsProcedureText (text : List ℕ) : Type 0 where
+  pub procedure : Procedure
+  pub sound : IsProcedure procedure
+  pub prints : print_procedure procedure ≡ text
+
+-- ---- refusals
+
+-- a line of the text, counted from 1
+pub record IsLineOf (text : List ℕ) (n : ℕ) : Type 0 where
+  pub counted : 0 < n
+  pub within : n ≤ length (split 10 text)
+
+-- no document has the exact lines that the text is read as
+abbrev pub HasBadLines : List ℕ → Type 0
+HasBadLines text = IsExactDoc (written text).text None
+
+-- a fault of a document whose keys can't be put in order
+abbrev pub IsUnsettled : TidyFault → Type 0
+IsUnsettled (Line n) = ⊥
+IsUnsettled Short = ⊥
+IsUnsettled (Twice double) = Unit {0}
+IsUnsettled NoMemory = Unit {0}
+
+-- why the exact lines that a text is read as have no exact text
+abbrev pub RefusesLines : List ℕ → TidyFault → Type 0
+RefusesLines text (Line n) = HasBadLines text × IsLineOf text n
+RefusesLines text Short = HasBadLines text
+RefusesLines text (Twice double) = Unit {0}
+RefusesLines text NoMemory = Unit {0}
+
+-- a text that isn't read, as it stands or by its lines, is refused
+abbrev pub RefusesLoose : List ℕ → TidyFault → Type 0
+RefusesLoose text (Line n) = IsExactDoc text None × HasBadLines text × IsLineOf text n
+RefusesLoose text Short = IsExactDoc text None × HasBadLines text
+RefusesLoose text (Twice double) = Unit {0}
+RefusesLoose text NoMemory = Unit {0}
 
 -- ---- keys in order
 

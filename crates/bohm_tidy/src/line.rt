@@ -3,7 +3,9 @@
 ghost use Rattle.std.specs.Prelude.{◌≡◌, ◌++◌, ◌∷◌, [], IfOk};
 ghost use Rattle.bohm_tidy.specs.declared.line.Gap.TheVariants.{Start};
 ghost use Rattle.bohm_tidy.specs.Line.{is_sign, is_cut, cut_text, shown, apart, without_return};
-ghost use Rattle.bohm_tidy.specs.Line.{before_comment, gap_behind, next_gap, gap_text, joined};
+ghost use Rattle.bohm_tidy.specs.Line.{before_comment, gap_behind, next_gap, word_text, joined};
+ghost use Rattle.bohm_tidy.specs.Line.{is_held_back, is_minus, is_plus, is_taken, sign_alone};
+ghost use Rattle.bohm_tidy.specs.Line.{sign_before, starts_sign};
 ghost use Rattle.bohm_tidy.specs.Line.{exact_line};
 
 use crate::bytes::place_of;
@@ -17,8 +19,10 @@ pub enum Gap {
     Start,
     /// A word after which a sum begins, or continues with an atom.
     Sum,
-    /// The minus of a sum's first term, which is followed by its atom without a space.
-    Minus,
+    /// The signs before a sum's first term, and whether the term is taken away.
+    First(bool),
+    /// The signs before a further term.
+    Further(bool),
     /// An atom or a key.
     Atom,
 }
@@ -75,40 +79,137 @@ fn set_apart(out: &mut Vec<u8>, signs: bool, bytes: &[u8]) -> Result<(), NoMemor
     Ok(())
 }
 
+fn is_minus(word: &[u8]) -> bool
+    ensures { result ≡ is_minus word.now }
+{
+    word == b"-".as_slice()
+}
+
+fn is_plus(word: &[u8]) -> bool
+    ensures { result ≡ is_plus word.now }
+{
+    word == b"+".as_slice()
+}
+
+/// Whether a word begins with a sign.
+#[tactic(auto, unfolding(crate::specs::Line::starts_sign))]
+fn starts_sign(word: &[u8]) -> bool
+    ensures { result ≡ starts_sign word.now }
+{
+    match word {
+        [first, ..] => is_sign(*first),
+        [] => false,
+    }
+}
+
 /// The gap after a word that is a sign, or an atom.
 #[tactic(auto, unfolding(crate::specs::Line::gap_behind))]
 fn gap_behind(word: &[u8]) -> Gap
     ensures { result ≡ gap_behind word.now }
 {
-    match word {
-        [first, ..] if is_sign(*first) => Gap::Sum,
-        _ => Gap::Atom,
+    if starts_sign(word) {
+        Gap::Sum
+    } else {
+        Gap::Atom
     }
 }
 
-/// The gap after a word.
+/// The gap after a word. The sign of a term waits for the term.
 #[tactic(auto, unfolding(crate::specs::Line::next_gap))]
 fn next_gap(gap: Gap, signs: bool, word: &[u8]) -> Gap
     ensures { result ≡ next_gap gap signs word.now }
 {
     match gap {
         Gap::Start => if signs { Gap::Sum } else { Gap::Atom },
-        Gap::Sum if word == b"-".as_slice() => Gap::Minus,
-        Gap::Atom if word == b"when".as_slice() => Gap::Sum,
-        _ => gap_behind(word),
+        Gap::Sum => if is_minus(word) {
+            Gap::First(true)
+        } else {
+            gap_behind(word)
+        },
+        Gap::First(taken) => if is_minus(word) {
+            Gap::First(!taken)
+        } else {
+            gap_behind(word)
+        },
+        Gap::Further(taken) => if is_minus(word) {
+            Gap::Further(!taken)
+        } else {
+            gap_behind(word)
+        },
+        Gap::Atom => if signs && is_minus(word) {
+            Gap::Further(true)
+        } else if signs && is_plus(word) {
+            Gap::Further(false)
+        } else if word == b"when".as_slice() {
+            Gap::Sum
+        } else {
+            gap_behind(word)
+        },
     }
 }
 
-/// Appends a word of the line after others.
-fn put_word(out: &mut Vec<u8>, gap: Gap, word: &[u8]) -> Result<(), NoMemory>
-    ensures { IfOk result (λ _. out.new.items ≡ out.old.items ++ gap_text gap ++ word.now) }
+/// Whether a word is a sign that waits for its term.
+fn is_held_back(gap: Gap, signs: bool, word: &[u8]) -> bool
+    ensures { result ≡ is_held_back gap signs word.now }
 {
     match gap {
-        Gap::Start | Gap::Minus => {}
-        Gap::Sum | Gap::Atom => out.push(b' ')?,
+        Gap::Start => false,
+        Gap::Sum | Gap::First(_) | Gap::Further(_) => is_minus(word),
+        Gap::Atom => signs && (is_minus(word) || is_plus(word)),
     }
+}
+
+/// Whether a term that a minus precedes is taken away: 0 is added.
+fn is_taken(taken: bool, word: &[u8]) -> bool
+    ensures { result ≡ is_taken taken word.now }
+{
+    taken && word != b"0".as_slice()
+}
+
+/// What precedes a word.
+#[tactic(auto, unfolding(crate::specs::Line::sign_before))]
+fn sign_before(gap: Gap, word: &[u8]) -> &'static [u8]
+    ensures { result.now ≡ sign_before gap word.now }
+{
+    match gap {
+        Gap::Start => b"",
+        Gap::Sum | Gap::Atom => b" ",
+        Gap::First(taken) => if !is_taken(taken, word) {
+            b" "
+        } else if starts_sign(word) {
+            b" - "
+        } else {
+            b" -"
+        },
+        Gap::Further(taken) => if is_taken(taken, word) {
+            b" - "
+        } else {
+            b" + "
+        },
+    }
+}
+
+/// Appends a word of the line after others, with the signs that waited for it.
+fn put_word(out: &mut Vec<u8>, gap: Gap, signs: bool, word: &[u8]) -> Result<(), NoMemory>
+    ensures { IfOk result (λ _. out.new.items ≡ out.old.items ++ word_text gap signs word.now) }
+{
+    if is_held_back(gap, signs, word) {
+        return Ok(());
+    }
+    out.extend_from_slice(sign_before(gap, word))?;
     out.extend_from_slice(word)?;
     Ok(())
+}
+
+/// A sign that no term follows.
+fn sign_alone(gap: Gap) -> &'static [u8]
+    ensures { result.now ≡ sign_alone gap }
+{
+    match gap {
+        Gap::Start | Gap::Sum | Gap::Atom => b"",
+        Gap::First(taken) => if taken { b" -" } else { b"" },
+        Gap::Further(taken) => if taken { b" -" } else { b" +" },
+    }
 }
 
 /// Appends the words, spaced as in the exact text.
@@ -121,9 +222,10 @@ fn put_joined(out: &mut Vec<u8>, signs: bool, words: &mut Words) -> Result<(), N
         if word.is_empty() {
             continue;
         }
-        put_word(out, gap, word)?;
+        put_word(out, gap, signs, word)?;
         gap = next_gap(gap, signs, word);
     }
+    out.extend_from_slice(sign_alone(gap))?;
     Ok(())
 }
 
@@ -149,7 +251,8 @@ fn before_comment(line: &[u8]) -> &[u8]
 
 /// Appends the line as it is in an exact text, without its newline: its words with a space between
 /// two of them, without its comment. A line without words appends nothing. `signs` says whether the
-/// signs of sums and comparisons are separate words. `room` is a working buffer.
+/// signs of sums and comparisons are separate words: then a term has one sign, a plus for two minus
+/// signs and before 0. `room` is a working buffer.
 pub fn put_line(
     out: &mut Vec<u8>,
     room: &mut Vec<u8>,

@@ -3,6 +3,7 @@
 ghost use Rattle.std.specs.Prelude.{◌≡◌, ◌≤◌, IfOk, OnOk, codes, length};
 ghost use Rattle.bohm_tidy.specs.Plain.{begins, fed, filled, has_writes, nothing, place_after};
 ghost use Rattle.bohm_tidy.specs.Plain.{signs_at, with_line, without_mark, written, written_of};
+ghost use Rattle.bohm_tidy.specs.Tidied.{IsLineOf};
 ghost use Rattle.bohm_tidy.specs.declared.plain.Place.TheVariants as places;
 
 use crate::bytes::place_of;
@@ -166,7 +167,7 @@ impl Plain {
 }
 
 /// The text without a byte order mark before it.
-fn without_mark(text: &[u8]) -> &[u8]
+pub fn without_mark(text: &[u8]) -> &[u8]
     ensures value { result.now ≡ without_mark text.now }
     ensures short { length result.now ≤ length text.now }
 {
@@ -191,29 +192,51 @@ pub fn plain_text(alloc: Global, text: &[u8]) -> Result<Plain, NoMemory>
     Ok(plain)
 }
 
-/// The exact lines that the first `lines` lines of a loose text are read as, or all of them if it
-/// has fewer. The time grows with the length of those lines.
-pub fn read_as(alloc: Global, text: &[u8], lines: u64) -> Result<Vec<u8>, NoMemory> {
-    let mut plain = Plain::new(alloc);
-    let mut rest = without_mark(text);
-    let mut left = lines;
-    'lines: while let Some(at) = place_of(b'\n', rest) {
-        if left == 0 {
-            return Ok(plain.text);
+/// Exact lines, and for each of them the number of the loose line from which it was made, or before
+/// which it is missing.
+#[derive(Drop)]
+pub struct NumberedLines {
+    pub exact: Vec<u8>,
+    pub numbers: Vec<u32>,
+}
+
+/// Adds a loose line's number for each exact line.
+pub fn add_numbers(numbers: &mut Vec<u32>, lines: &[u8], number: u32) -> Result<(), NoMemory> {
+    for byte in lines {
+        if *byte == b'\n' {
+            numbers.push(number)?;
         }
-        plain.feed(&rest[..at])?;
-        left -= 1;
-        rest = &rest[at + 1..];
     }
-    if left > 0 {
-        plain.feed(rest)?;
+    Ok(())
+}
+
+/// The exact lines that a loose text is read as, numbered. The time grows with the length of the
+/// text.
+pub fn numbered_plain(alloc: Global, text: &[u8]) -> Result<NumberedLines, NoMemory> {
+    let mut plain = Plain::new(alloc);
+    let mut numbers = Vec::new(alloc);
+    let mut number: u32 = 0;
+    for line in without_mark(text).split(|byte| *byte == b'\n') {
+        let before = plain.text.len();
+        number = number.saturating_add(1);
+        plain.feed(line)?;
+        add_numbers(
+            &mut numbers,
+            plain.text.as_slice().get(before..).unwrap_or(&[]),
+            number,
+        )?;
     }
-    Ok(plain.text)
+    Ok(NumberedLines {
+        exact: plain.text,
+        numbers,
+    })
 }
 
 /// The line of the loose text, counted from 1, from which the byte at this index of the plain text
 /// was made, or the last line if the plain text has no such byte.
-pub fn line_at(alloc: Global, text: &[u8], place: usize) -> Result<u64, NoMemory> {
+pub fn line_at(alloc: Global, text: &[u8], place: usize) -> Result<u64, NoMemory>
+    ensures { IfOk result (IsLineOf text.now) }
+{
     let mut plain = Plain::new(alloc);
     let mut rest = without_mark(text);
     let mut number: usize = 1;

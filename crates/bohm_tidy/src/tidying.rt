@@ -1,12 +1,13 @@
 //! Writes the exact text of a loosely written log.
 
-ghost use Rattle.std.specs.Prelude.{◌≡◌, [], IfOk, OnOk};
+ghost use Rattle.std.specs.Prelude.{◌≡◌, [], IfErr, IfOk, OnOk};
 ghost use Rattle.std.specs.List.{IsDistinct};
 ghost use Rattle.std.specs.Str.{bytes_eq};
 ghost use Rattle.bohm_types.specs.Keys.{names_of};
 ghost use Rattle.bohm_text.specs.Print.{print_doc};
 ghost use Rattle.bohm_tidy.specs.Settled.{settled};
-ghost use Rattle.bohm_tidy.specs.Tidied.{IsExactDoc, IsTidied, IsTidiedByLines};
+ghost use Rattle.bohm_tidy.specs.Tidied.{IsExactDoc, IsLineOf, IsTidied, IsTidiedByLines};
+ghost use Rattle.bohm_tidy.specs.Tidied.{IsUnsettled, RefusesLines, RefusesLoose};
 
 use crate::doubles::first_double;
 use crate::fault::{Double, TidyFault};
@@ -19,12 +20,16 @@ use bohm_types::NoMemory;
 use std::alloc::Global;
 
 /// The line of the loose text from which this line of the plain one was made. Both count from 1.
-fn loose_line(alloc: Global, text: &[u8], plain: &Plain, line: u64) -> Result<u64, NoMemory> {
+fn loose_line(alloc: Global, text: &[u8], plain: &Plain, line: u64) -> Result<u64, NoMemory>
+    ensures { IfOk result (IsLineOf text.now) }
+{
     line_at(alloc, text, line_start(plain.text.as_slice(), line))
 }
 
 /// The repeated key of a document that was read from a plain text.
-fn twice(alloc: Global, text: &[u8], plain: &Plain, doc: &Doc) -> Result<TidyFault, NoMemory> {
+fn twice(alloc: Global, text: &[u8], plain: &Plain, doc: &Doc) -> Result<TidyFault, NoMemory>
+    ensures { IfOk result IsUnsettled }
+{
     let places = first_double(alloc, doc.store())?;
     Ok(TidyFault::Twice(Double {
         first: loose_line(alloc, text, plain, (places.first as u64).saturating_add(2))?,
@@ -33,7 +38,9 @@ fn twice(alloc: Global, text: &[u8], plain: &Plain, doc: &Doc) -> Result<TidyFau
 }
 
 /// The repeated key of a document that was read from an exact text.
-fn twice_exactly(alloc: Global, doc: &Doc) -> Result<TidyFault, NoMemory> {
+fn twice_exactly(alloc: Global, doc: &Doc) -> Result<TidyFault, NoMemory>
+    ensures { IfOk result IsUnsettled }
+{
     let places = first_double(alloc, doc.store())?;
     Ok(TidyFault::Twice(Double {
         first: (places.first as u64).saturating_add(2),
@@ -43,7 +50,8 @@ fn twice_exactly(alloc: Global, doc: &Doc) -> Result<TidyFault, NoMemory> {
 
 /// The exact text of a text that isn't exact.
 fn tidy_by_lines(alloc: Global, seed: DrawnSeed, text: &[u8]) -> Result<Vec<u8>, TidyFault>
-    ensures { IfOk result (λ exact. IsTidiedByLines text.now exact.items) }
+    ensures ok { IfOk result (λ exact. IsTidiedByLines text.now exact.items) }
+    ensures err { IfErr result (RefusesLines text.now) }
 {
     let plain = plain_text(alloc, text)?;
     let doc = match parse_with_seed(alloc, seed, plain.text.as_slice()) {
@@ -82,6 +90,7 @@ fn exact_doc(alloc: Global, seed: DrawnSeed, text: &[u8]) -> Result<Option<Doc>,
 fn tidy_exactly(alloc: Global, doc: &Doc) -> Result<Vec<u8>, TidyFault>
     ensures text { IfOk result (λ exact. exact.items ≡ print_doc (settled [] [] doc.now)) }
     ensures distinct { OnOk result (IsDistinct bytes_eq (names_of doc.now.store)) }
+    ensures err { IfErr result IsUnsettled }
 {
     match print_settled(alloc, doc, &[], &[]) {
         Ok(exact) => Ok(exact),
@@ -100,7 +109,8 @@ fn tidy_exactly(alloc: Global, doc: &Doc) -> Result<Vec<u8>, TidyFault>
 /// `Line` and `Short` say where the text stops being a prefix of a log, `Twice` which key the store
 /// names twice. `NoMemory` says that an allocation failed.
 pub fn tidy(alloc: Global, seed: DrawnSeed, text: &[u8]) -> Result<Vec<u8>, TidyFault>
-    ensures { IfOk result (λ exact. IsTidied text.now exact.items) }
+    ensures ok { IfOk result (λ exact. IsTidied text.now exact.items) }
+    ensures err { IfErr result (RefusesLoose text.now) }
 {
     match exact_doc(alloc, seed, text)? {
         Some(doc) => match tidy_exactly(alloc, &doc) {

@@ -1,15 +1,19 @@
 -- What the program reads and writes.
-use Rattle.std.specs.Prelude.{ℕ, ◌≤◌, List, length, Option}
+use Rattle.std.specs.Prelude.{ℕ, ◌≤◌, ◌⊎◌, List, length, Option}
 use Rattle.std.specs.Io.KnownBytes.{Appends}
 use Rattle.bohm_answer.specs.Bytes.{ReadsAll, Sends}
-use Rattle.bohm_tidy.specs.Tidied.{IsTidied}
+use Rattle.bohm_tidy.specs.Tidied.{IsTidied, IsProcedureText}
 use Rattle.bohm_types.specs.Limits.{longest_text}
+
+-- the exact text of a loose log, or a procedure's text; this doesn't say which procedure a loose one is
+abbrev pub IsExactOf : List ℕ → List ℕ → Type 0
+IsExactOf text exact = IsTidied text exact ⊎ IsProcedureText exact
 
 -- the reader's whole input is a text with this exact text, which isn't too long
 pub record ReadsLoose (unread unread' : Option (List ℕ)) (exact : List ℕ) : Type 0 where
   pub text : List ℕ
   pub read : ReadsAll unread unread' text
-  pub tidied : IsTidied text exact
+  pub tidied : IsExactOf text exact
   pub short : length exact ≤ longest_text
 
 -- only the exact text was written

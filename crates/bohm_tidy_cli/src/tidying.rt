@@ -1,63 +1,28 @@
-//! Tidies a log, from bytes to bytes.
+//! Tidies a log or a procedure, from bytes to bytes.
 
-ghost use Rattle.std.specs.Prelude.{◌≡◌, ◌≤◌, ℕ, length, IfOk, IfErr, OnOk, Err};
+ghost use Rattle.std.specs.Prelude.{◌≡◌, ◌≤◌, ℕ, [], false, true, length, IfOk, IfErr, OnOk, Err};
+ghost use Rattle.std.specs.Io.KnownBytes.{Appends};
 ghost use Rattle.bohm_answer.specs.Refusing.{IsBeforeWriting};
-ghost use Rattle.bohm_tidy.specs.Tidied.{IsTidied};
-ghost use Rattle.bohm_tidy_cli.specs.Tidying.{StopsTidying, Tidies};
+ghost use Rattle.bohm_tidy_cli.specs.Tidying.{IsExactOf, StopsTidying, Tidies};
 
+use crate::arguments::Wishes;
+use crate::refusal::{check_exact, put_refusal, refusal_of};
 use bohm_answer::{LONGEST_TEXT, RunFault, read_all, write_all};
-use bohm_check::{put_double, put_loose_end, put_loose_fault};
+use bohm_check::is_procedure;
 use bohm_log::DrawnSeed;
-use bohm_text::TextFault;
-use bohm_tidy::{TidyFault, read_as, tidy};
-use bohm_txn::{CheckFault, CheckKind};
-use bohm_types::NoMemory;
+use bohm_tidy::{TidyFault, is_loose_procedure, tidy, tidy_procedure, with_comments};
 use std::alloc::Global;
 use std::io::{Read, Write};
 use std::random::RandomSource;
 
-/// The refusal of a text that isn't a log's.
-fn refusal_of(fault: TidyFault) -> RunFault
-    ensures { IsBeforeWriting result }
+/// The exact text of a loose log or of a loose procedure.
+fn tidied(alloc: Global, seed: DrawnSeed, text: &[u8]) -> Result<Vec<u8>, TidyFault>
+    ensures { IfOk result (λ exact. IsExactOf text.now exact.items) }
 {
-    match fault {
-        TidyFault::Line(line) => RunFault::Text(TextFault::Line(line)),
-        TidyFault::Short => RunFault::Text(TextFault::Short),
-        TidyFault::Twice(_) => RunFault::Check(CheckFault {
-            txn: 0,
-            stmt: 0,
-            kind: CheckKind::Order,
-        }),
-        TidyFault::NoMemory => RunFault::NoMemory,
-    }
-}
-
-/// The message about a text that isn't a log's.
-fn put_refusal(
-    alloc: Global,
-    report: &mut Vec<u8>,
-    text: &[u8],
-    fault: TidyFault,
-) -> Result<(), NoMemory> {
-    match fault {
-        TidyFault::Line(line) => {
-            let above = read_as(alloc, text, line.saturating_sub(1))?;
-            let exact = read_as(alloc, text, line)?;
-            put_loose_fault(
-                alloc,
-                report,
-                text,
-                line,
-                above.as_slice(),
-                exact.as_slice(),
-            )
-        }
-        TidyFault::Short => {
-            let exact = read_as(alloc, text, u64::MAX)?;
-            put_loose_end(alloc, report, text, exact.as_slice())
-        }
-        TidyFault::Twice(double) => put_double(report, text, double.first, double.again),
-        TidyFault::NoMemory => Ok(()),
+    if is_loose_procedure(alloc, text)? {
+        tidy_procedure(alloc, seed, text)
+    } else {
+        tidy(alloc, seed, text)
     }
 }
 
@@ -69,37 +34,68 @@ fn exact_text<T: RandomSource>(
     text: &[u8],
     report: &mut Vec<u8>,
 ) -> Result<Vec<u8>, RunFault>
-    ensures tidied { IfOk result (λ exact. IsTidied text.now exact.items) }
+    ensures tidied { IfOk result (λ exact. IsExactOf text.now exact.items) }
     ensures short { IfOk result (λ exact. length exact.items ≤ LONGEST_TEXT) }
     ensures silent { OnOk result (report.new ≡ report.old) }
     ensures before { IfErr result IsBeforeWriting }
 {
-    match tidy(alloc, DrawnSeed::draw(rt), text) {
+    let seed = DrawnSeed::draw(rt);
+    match tidied(alloc, seed, text) {
         Ok(exact) if exact.len() > LONGEST_TEXT => Err(RunFault::TooLong),
         Ok(exact) => Ok(exact),
         Err(fault) => {
-            let _ = put_refusal(alloc, report, text, fault);
+            let _ = put_refusal(alloc, seed, report, text, fault);
             Err(refusal_of(fault))
         }
     }
 }
 
-/// Reads a loosely written log to the reader's end, and writes only its exact text. The whole text
-/// is made before the first byte is written. Every failure of a reader or a writer is an error,
-/// even an interrupted call. A message for people about why a text is refused is added to the
-/// report, as long as allocations succeed.
+/// What a text that was tidied is asked to be written as: nothing, after the check of its exact text,
+/// or with its comments, or as it is.
+fn asked<T: RandomSource>(
+    rt: &T,
+    alloc: Global,
+    wishes: Wishes,
+    text: &[u8],
+    exact: Vec<u8>,
+    report: &mut Vec<u8>,
+) -> Result<Vec<u8>, RunFault>
+    ensures exact { IfOk result (λ output. wishes.check ≡ false → wishes.keep_comments ≡ false
+        → output.items ≡ exact.items) }
+    ensures nothing { IfOk result (λ output. wishes.check ≡ true → output.items ≡ []) }
+    ensures before { IfErr result IsBeforeWriting }
+{
+    if wishes.check {
+        let seed = DrawnSeed::draw(rt);
+        check_exact(alloc, seed, report, text, exact.as_slice())?;
+        return Ok(Vec::new(alloc));
+    }
+    if wishes.keep_comments {
+        let is_log = !is_procedure(exact.as_slice());
+        return Ok(with_comments(alloc, text, exact.as_slice(), is_log)?);
+    }
+    Ok(exact)
+}
+
+/// Reads a loosely written log or procedure to the reader's end, and writes only its exact text; if
+/// that is wished, with its comments, or nothing. The whole output is made before the first byte is
+/// written. Every failure of a reader or a writer is an error, even an interrupted call. A message for
+/// people about why a text is refused is added to the report, as long as allocations succeed.
 pub fn tidy_text<T: RandomSource, R: Read, W: Write>(
     rt: &T,
     alloc: Global,
     reader: &mut R,
     writer: &mut W,
+    wishes: Wishes,
     report: &mut Vec<u8>,
 ) -> Result<(), RunFault>
-    ensures ok { OnOk result
-        (Tidies (R.remaining reader.old) (R.remaining reader.new) (W.contents writer.old)
+    ensures ok { OnOk result (wishes.check ≡ false → wishes.keep_comments ≡ false
+        → Tidies (R.remaining reader.old) (R.remaining reader.new) (W.contents writer.old)
         (W.contents writer.new)) }
-    ensures silent { OnOk result (report.new ≡ report.old) }
-    ensures sent { (sent : ℕ) → result ≡ Err (RunFault.Write sent)
+    ensures checked { OnOk result (wishes.check ≡ true
+        → Appends (W.contents writer.old) (W.contents writer.new) []) }
+    ensures sent { (sent : ℕ) → result ≡ Err (RunFault.Write sent) → wishes.check ≡ false
+        → wishes.keep_comments ≡ false
         → StopsTidying (R.remaining reader.old) (R.remaining reader.new) (W.contents writer.old)
         (W.contents writer.new) sent }
 
@@ -108,5 +104,6 @@ pub fn tidy_text<T: RandomSource, R: Read, W: Write>(
 {
     let text = read_all(alloc, reader)?;
     let exact = exact_text(rt, alloc, text.as_slice(), report)?;
-    write_all(writer, exact.as_slice())
+    let output = asked(rt, alloc, wishes, text.as_slice(), exact, report)?;
+    write_all(writer, output.as_slice())
 }

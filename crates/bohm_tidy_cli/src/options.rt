@@ -1,11 +1,17 @@
-//! The program's name and its help.
+//! The command, its options and its help.
 
-use bohm_command::Program;
+ghost use Rattle.std.specs.Prelude.{◌≡◌, IfOk};
+ghost use Rattle.clap.specs.Words.{app_of};
+ghost use Rattle.bohm_tidy_cli.specs.Options.{tidy};
+
+use bohm_command::flag;
+use clap::Command;
+use std::alloc::{AllocError, Global};
 
 /// What help says above the options.
 const ABOUT: &str = "\
-Writes the exact text of the log of transactions on standard input, which may be
-loosely written:
+Writes the exact text of the log of transactions, or of the procedure, on standard
+input, which may be loosely written:
 
   - comments, from # to the end of a line, and empty lines
   - spaces and tabs before, between and after words; Windows line endings; a
@@ -14,6 +20,7 @@ loosely written:
   - the keys of the store, of reads and of writes in any order, and a key of
     reads or of writes more than once
   - reads or writes left out: a line is added with what the body reads or writes
+  - - 0 and + -3 in sums, which become + 0 and - 3
 
 bohm, check and explain accept the exact text. Nothing is run; check reports
 undeclared keys and the like.";
@@ -53,15 +60,31 @@ was given, a caret, what was expected, and a corrected line.
 To run it:
   tidy < loose.log > exact.log
   tidy < loose.log | bohm
+  tidy --check < loose.log
 
 Exit status:
   0  the exact text was printed, or this help
   1  the text was refused: standard error says why, and nothing was printed
   2  the arguments were refused: standard error says why";
 
-/// The program.
-pub const TIDY: Program<'static> = Program {
-    name: "tidy",
-    about: ABOUT,
-    after_help: AFTER_HELP,
-};
+/// The program's name.
+pub const NAME: &str = "tidy";
+
+const CHECK: &str = "\
+Write nothing but what check says of the exact text, at the
+lines of the text as it was given";
+
+const KEEP_COMMENTS: &str = "\
+Keep the comments: without this option tidy writes the exact
+text of what it wrote";
+
+/// The command.
+pub fn command<'a>(alloc: Global) -> Result<Command<'a>, AllocError>
+    ensures { IfOk result (λ command. app_of command ≡ tidy) }
+{
+    Command::new(alloc, NAME)
+        .about(ABOUT)
+        .after_help(AFTER_HELP)
+        .arg(flag(alloc, "check", CHECK))?
+        .arg(flag(alloc, "keep-comments", KEEP_COMMENTS))
+}

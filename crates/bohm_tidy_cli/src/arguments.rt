@@ -1,0 +1,35 @@
+//! What the arguments ask for.
+
+ghost use Rattle.std.specs.Prelude.{◌≡◌, [], map, string_bytes, IfOk, IfErr};
+ghost use Rattle.bohm_command.specs.Taken.{AreTaken, faults_in};
+ghost use Rattle.bohm_command.specs.Faults.{IsNoMemory, IsFoundAmong};
+ghost use Rattle.bohm_tidy_cli.specs.Options.{tidy, wishes_in};
+
+use crate::options::{NAME, command};
+use bohm_command::{ArgumentFault, command_line, is_given, parse_line};
+use std::alloc::Global;
+
+/// What is to be written.
+#[derive(Clone, Copy, Debug, PartialEq, Eq)]
+pub struct Wishes {
+    /// Nothing but the faults of the text and of the check.
+    pub check: bool,
+    /// The comments too.
+    pub keep_comments: bool,
+}
+
+/// What the arguments after the program's name ask for. Arguments that clap doesn't accept are
+/// refused with its text.
+pub fn read_arguments(alloc: Global, arguments: &[String]) -> Result<Wishes, ArgumentFault>
+    ensures ok { IfOk result (λ wishes. wishes ≡ wishes_in (map string_bytes arguments.now)) }
+    ensures faultless { IfOk result (λ _. faults_in tidy (map string_bytes arguments.now) ≡ []) }
+    ensures taken { AreTaken tidy (map string_bytes arguments.now) → IfErr result IsNoMemory }
+    ensures found { IfErr result (IsFoundAmong (faults_in tidy (map string_bytes arguments.now))) }
+{
+    let line = command_line(alloc, NAME, arguments)?;
+    let matches = parse_line(alloc, command(alloc)?, line.as_slice())?;
+    Ok(Wishes {
+        check: is_given(&matches, "check"),
+        keep_comments: is_given(&matches, "keep-comments"),
+    })
+}
