@@ -1,6 +1,6 @@
 /* Two threads call at the same time, each with its own machine: each gets its own log's replies, each time. The same holds
- * if their lists of calls share the names of a third machine, which is closed meanwhile. And a machine is passed from one
- * thread to the next, which joins the one before. */
+ * if their lists of calls share the names of a third machine, which is closed meanwhile. Two threads read one machine at
+ * once. And a machine is passed from one thread to the next, which joins the one before. */
 #include "embed.h"
 
 #include <pthread.h>
@@ -115,6 +115,39 @@ static void hand_over(void) {
     close_behind(&machine, ROUNDS * 50);
 }
 
+/* Reads the past of a machine that others read too, and makes a list that shares its names. */
+static void *read_past(void *given) {
+    const bohm_machine *machine = given;
+    pthread_barrier_wait(&both);
+    for (uint32_t ts = 0; ts <= COUNT; ts++) {
+        uint8_t present = 0, digest[32];
+        int64_t value = 0;
+        bohm_bytes out = BOHM_NO_BYTES;
+        bohm_calls calls = {0};
+        if (bohm_value_at(machine, (const uint8_t *)"a", 1, ts, &present, &value)) fault("threads", "value_at");
+        if (!present || value != counted_a(ts)) fault("threads", "another value");
+        if (ts % 100) continue;
+        if (bohm_store_at(machine, ts, &out) || bohm_digest(machine, ts, digest)) fault("threads", "store_at");
+        take("threads", &out, snapshot_behind(ts));
+        if (bohm_open_calls_for(machine, &calls, 1)) fault("threads", "no list of calls");
+        bohm_close_calls(&calls);
+    }
+    return NULL;
+}
+
+static void read_at_once(void) {
+    bohm_machine machine = {0};
+    open_new(&machine);
+    apply_behind(&machine, 0, COUNT);
+    for (int round = 0; round < ROUNDS; round++) {
+        pthread_t threads[2];
+        for (int i = 0; i < 2; i++)
+            if (pthread_create(&threads[i], NULL, read_past, &machine)) fault("threads", "no thread");
+        for (int i = 0; i < 2; i++) pthread_join(threads[i], NULL);
+    }
+    close_behind(&machine, COUNT);
+}
+
 int main(void) {
     uint32_t sizes[2] = {7, 100};
     pthread_t threads[2];
@@ -123,7 +156,8 @@ int main(void) {
         if (pthread_create(&threads[i], NULL, thread, &sizes[i])) fault("threads", "no thread");
     for (int i = 0; i < 2; i++) pthread_join(threads[i], NULL);
     share_names();
+    read_at_once();
     hand_over();
-    puts("two threads with a machine each, lists that share names, and a machine that goes from thread to thread: as it should be");
+    puts("two threads with a machine each, lists that share names, a machine that two read, and one that goes from thread to thread: as it should be");
     return 0;
 }

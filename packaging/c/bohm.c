@@ -13,6 +13,8 @@ typedef __INT64_TYPE__ int64_t;
 #define BOHM_TYPES_ARE_DECLARED
 #include "../../crates/bohm_c/include/bohm.h"
 
+void *malloc(size_t size);
+void *realloc(void *at, size_t size);
 void free(void *at);
 
 uint32_t proved_bohm_answer(const uint8_t *seed, const uint8_t *text, size_t len, bohm_bytes *out);
@@ -44,10 +46,49 @@ void proved_bohm_close(void *handle);
 #define is_array(at, len) ((at) || !(len))
 #define array_of(at) ((at) ? (at) : NOWHERE)
 
+/* ---- the heap: scripts/pack has the proved calls allocate by the three functions of this part that aren't static */
+
+/* The caller's allocator, whose functions are null if there is none, and whether anything was allocated. */
+static bohm_allocator chosen;
+static unsigned char is_used;
+
+static void note_use(void) {
+    if (!__atomic_load_n(&is_used, __ATOMIC_RELAXED)) __atomic_store_n(&is_used, 1, __ATOMIC_RELAXED);
+}
+
+void *bohm_heap_malloc(size_t size) {
+    note_use();
+    return chosen.allocate ? chosen.allocate(chosen.context, size) : malloc(size);
+}
+
+void *bohm_heap_realloc(void *at, size_t size) {
+    if (!at) return bohm_heap_malloc(size);
+    return chosen.resize ? chosen.resize(chosen.context, at, size) : realloc(at, size);
+}
+
+void bohm_heap_free(void *at) {
+    if (!at) return;
+    if (chosen.release) chosen.release(chosen.context, at);
+    else free(at);
+}
+
+uint32_t bohm_use_allocator(const bohm_allocator *allocator) {
+    if (!allocator || !allocator->allocate || !allocator->resize || !allocator->release) return BOHM_MISUSE;
+    if (chosen.allocate || __atomic_load_n(&is_used, __ATOMIC_RELAXED)) return BOHM_MISUSE;
+    chosen = *allocator;
+    return BOHM_DONE;
+}
+
+void bohm_free(void *at) { bohm_heap_free(at); }
+
+/* ---- the calls */
+
+uint32_t bohm_abi(void) { return BOHM_ABI; }
+
 /* Passes the bytes that a proved call returned to the caller, or frees them. */
 static uint32_t hand_out(bohm_bytes *out, bohm_bytes told, uint32_t status) {
     if (!told.len) told.at = 0;
-    if (!out) free(told.at);
+    if (!out) bohm_free(told.at);
     else if (status == BOHM_DONE || status == BOHM_REFUSED || status == BOHM_STOPPED) *out = told;
     return status;
 }
@@ -71,8 +112,6 @@ const char *bohm_status_text(uint32_t status) {
     };
     return status < sizeof texts / sizeof *texts ? texts[status] : "unknown status";
 }
-
-void bohm_free(void *at) { free(at); }
 
 uint32_t bohm_answer(const uint8_t seed[16], const uint8_t *text, size_t len, bohm_bytes *out) {
     if (!seed || !is_array(text, len)) return BOHM_MISUSE;

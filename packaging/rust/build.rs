@@ -1,6 +1,7 @@
 //! Finds libbohm.a: in the folder that `BOHM_LIB` names, by pkg-config, or in the repository that contains this folder,
 //! where it is proved and built if it doesn't exist yet.
-use std::{env, path::Path, path::PathBuf, process::Command};
+use std::process::{exit, Command};
+use std::{env, path::Path, path::PathBuf};
 
 /// The trimmed standard output of a command, if it succeeds.
 fn told(command: &mut Command) -> Option<String> {
@@ -21,12 +22,21 @@ fn in_repository() -> Option<PathBuf> {
     })
 }
 
+/// Ends the build with this error.
+fn stop(why: &str) -> ! {
+    println!("cargo::error={why}");
+    exit(1)
+}
+
 fn main() {
     let named = env::var_os("BOHM_LIB").map(PathBuf::from);
-    let folder = named.or_else(by_pkg_config).or_else(in_repository);
-    let folder = folder.expect("libbohm.a: set BOHM_LIB to its folder, or install bohm.pc where pkg-config finds it");
+    let Some(folder) = named.or_else(by_pkg_config).or_else(in_repository) else {
+        stop("libbohm.a isn't found: set BOHM_LIB to its folder, or install bohm.pc where pkg-config finds it");
+    };
     let archive = folder.join("libbohm.a");
-    assert!(archive.is_file(), "there is no {}", archive.display());
+    if !archive.is_file() {
+        stop(&format!("there is no {}", archive.display()));
+    }
     println!("cargo:rustc-link-search=native={}", folder.display());
     println!("cargo:rustc-link-lib=static=bohm");
     println!("cargo:rerun-if-env-changed=BOHM_LIB");

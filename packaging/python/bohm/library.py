@@ -9,7 +9,7 @@ from ._core import Table
 Text = Union[str, bytes, bytearray, memoryview]
 
 # The shared object's name, which changes with the interface that programs rely on, and the interface that has a number.
-SHARED = "libbohm.so.0"
+SHARED = "libbohm.so.1"
 ABI = 1
 FUNCTIONS = (
     "bohm_answer", "bohm_open", "bohm_apply_held", "bohm_rows", "bohm_value_at", "bohm_store_at", "bohm_digest", "bohm_trim",
