@@ -1,7 +1,7 @@
 -- What the trees stand for after one batch more.
-use Rattle.std.proofs.Common.{◌≡◌, ◌⊎◌, inl, inr, ℕ, zero, suc, pos, ◌+◌, ◌<◌, ◌≤◌, false, List, [], ◌∷◌, ◌++◌, map, length, take, refl, sym, ap, ◌∙◌, arith, subst, append_assoc, append-nil, length-append, Less}
+use Rattle.std.proofs.Common.{◌≡◌, ◌⊎◌, inl, inr, ℕ, pos, ◌+◌, ◌<◌, List, [], ◌∷◌, ◌++◌, map, length, take, refl, sym, ap, ◌∙◌, arith, subst, append_assoc, append-nil, length-append, Less}
 use Rattle.std.proofs.lemmas.List.{take-append-le}
-use Rattle.std.specs.Ordering.{match_ordering, int_cmp}
+use Rattle.std.specs.Ordering.{match_ordering}
 use Rattle.std.specs.Cmp.{int_cmp_is}
 use Rattle.std.proofs.lemmas.Int.{ints}
 use Rattle.bohm_types.specs.declared.edition.Edition.{Edition}
@@ -10,9 +10,9 @@ use Rattle.sqlite_value.specs.Order.{Row, value_cmp}
 use Rattle.sqlite_value.specs.Keys.{plain, entry_cmp}
 use Rattle.sqlite_value.proofs.OrderLemmas.{value_cmp-Int}
 use Rattle.sqlite_trees.specs.Tree.{Trees, put_row, insert_entry}
-use Rattle.bohm_ledger.specs.Rows.{batch_tree, batch_row, request_tree, request_row, Has, AreSame}
+use Rattle.bohm_ledger.specs.Rows.{batch_tree, batch_row, request_tree, request_row, Has, AreSame, AreRequests}
 use Rattle.bohm_ledger.specs.Rules.{State, Rules, after, run, origin, total, requests}
-use Rattle.bohm_ledger.specs.Ledgers.{MayGo, AreKept, IsBalance, IsLedger, StandsFor}
+use Rattle.bohm_ledger.specs.Ledgers.{AreKept, IsBalance, IsLedger}
 use Rattle.bohm_ledger.specs.Steps.{HasBatch, with_requests}
 use Rattle.bohm_ledger.proofs.Members.{has_first, has_second, has_either, inserted, still_in, in_before, request_tied, IsAlone}
 
@@ -61,36 +61,33 @@ module _ {Defs : Type 0} (rules : Rules Defs) where
 -- ---- rows of requests
 
 abbrev IsRequest : Row → Type 0
-IsRequest row = (n : ℕ) × (e : List ℕ × List ℕ) × (row ≡ request_row n e)
+IsRequest row = (place : ℕ) × (e : List ℕ × List ℕ) × (row ≡ request_row place e)
 
 are_requests_map : (place : ℕ) (es : List (List ℕ × List ℕ)) (row : Row) → Has row (map (request_row place) es) → IsRequest row
 are_requests_map place [] row none = absurd none
 are_requests_map place (e ∷ es) row (inl is) = (place, e, is)
 are_requests_map place (e ∷ es) row (inr there) = are_requests_map place es row there
 
-are_requests : {Defs : Type 0} (rules : Rules Defs) (place : ℕ) (s : State Defs) (bs : List (List ℕ)) (row : Row) → Has row (requests rules place s bs) → IsRequest row
+pub are_requests : {Defs : Type 0} (rules : Rules Defs) (place : ℕ) (s : State Defs) (bs : List (List ℕ)) (row : Row) → Has row (requests rules place s bs) → IsRequest row
 are_requests rules place s [] row none = absurd none
 are_requests rules place s (b ∷ bs) row there = elim (has_either row (map (request_row place) (rules.answers s b)) _ there) [
   | inl here ↦ are_requests_map place (rules.answers s b) row here
   | inr later ↦ are_requests rules (place + 1) (after rules s b) bs row later
 ]
 
-abbrev AllRequests : List Row → Type 0
-AllRequests rows = (row : Row) → Has row rows → IsRequest row
-
-alone : (place : ℕ) (e : List ℕ × List ℕ) (rows : List Row) → AllRequests rows → IsAlone (request_row place e) rows
+alone : (place : ℕ) (e : List ℕ × List ℕ) (rows : List Row) → AreRequests rows → IsAlone (request_row place e) rows
 alone place e rows all row here tied =
     let form = all row here in
     form.2 ∙ request_tied form.0 place form.1 e (ap (λ r. entry_cmp plain r (request_row place e)) (sym form.2) ∙ tied)
 
-one_more : (place : ℕ) (e : List ℕ × List ℕ) (rows : List Row) → AllRequests rows → AllRequests (insert_entry plain (request_row place e) rows)
+one_more : (place : ℕ) (e : List ℕ × List ℕ) (rows : List Row) → AreRequests rows → AreRequests (insert_entry plain (request_row place e) rows)
 one_more place e rows all row there = elim (in_before (request_row place e) rows row there) [ inl is ↦ (place, e, is) | inr before ↦ all row before ]
 
 with_old : (place : ℕ) (es : List (List ℕ × List ℕ)) (rows : List Row) (row : Row) → Has row rows → Has row (with_requests place es rows)
 with_old place [] rows row there = there
 with_old place (e ∷ es) rows row there = with_old place es (insert_entry plain (request_row place e) rows) row (still_in (request_row place e) rows row there)
 
-with_new : (place : ℕ) (es : List (List ℕ × List ℕ)) (rows : List Row) → AllRequests rows → (row : Row) → Has row (map (request_row place) es) → Has row (with_requests place es rows)
+with_new : (place : ℕ) (es : List (List ℕ × List ℕ)) (rows : List Row) → AreRequests rows → (row : Row) → Has row (map (request_row place) es) → Has row (with_requests place es rows)
 with_new place [] rows all row none = absurd none
 with_new place (e ∷ es) rows all row (inl is) =
     subst (λ r. Has r (with_requests place (e ∷ es) rows)) (sym is) (with_old place es (insert_entry plain (request_row place e) rows) (request_row place e) (inserted (request_row place e) rows (alone place e rows all)))
@@ -103,7 +100,7 @@ with_either place (e ∷ es) rows row there = elim (with_either place es (insert
   | inl now ↦ elim (in_before (request_row place e) rows row now) [ inl is ↦ inr (inl is) | inr before ↦ inl before ]
 ]
 
-same_requests : (xs ys : List Row) (place : ℕ) (es : List (List ℕ × List ℕ)) → AllRequests xs → AreSame xs ys → AreSame (xs ++ map (request_row place) es) (with_requests place es ys)
+same_requests : (xs ys : List Row) (place : ℕ) (es : List (List ℕ × List ℕ)) → AreRequests xs → AreSame xs ys → AreSame (xs ++ map (request_row place) es) (with_requests place es ys)
 same_requests xs ys place es all same = record {
   there = λ row here. elim (has_either row xs (map (request_row place) es) here) [
     | inl old ↦ with_old place es ys row (same.there row old)

@@ -6,3 +6,7 @@ pub mod Appending
 pub mod Ready
 pub mod Replaying
 pub mod Opening
+pub mod Forgetting
+pub mod Creating
+pub mod Finding
+pub mod Answering

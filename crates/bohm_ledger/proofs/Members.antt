@@ -1,8 +1,7 @@
 -- Which rows a tree has after an edit.
-use Rattle.std.proofs.Common.{◌≡◌, ◌≢◌, pos, if◌then◌else◌, ◌⊎◌, inl, inr, ℕ, ℤ, Bool, true, false, not, List, [], ◌∷◌, ◌++◌, filter, refl, sym, ap, ◌∙◌, Less, Equal, Greater, is_eq}
+use Rattle.std.proofs.Common.{◌≡◌, ◌≢◌, pos, if◌then◌else◌, ◌⊎◌, inl, inr, ℕ, ℤ, Bool, true, false, not, List, [], ◌∷◌, ◌++◌, refl, sym, ap, ◌∙◌, Less, Equal, Greater, is_eq}
 use Rattle.std.specs.declared.cmp.Ordering.{Ordering}
-use Rattle.std.specs.Ordering.{ordering_then, nat_cmp, int_cmp, match_ordering}
-use Rattle.std.specs.Cmp.Lexicographic.{slice_cmp}
+use Rattle.std.specs.Ordering.{match_ordering}
 use Rattle.std.proofs.lemmas.Cmp.{tied_itself}
 use Rattle.std.proofs.lemmas.Map.Lookups.{exact_signed}
 use Rattle.std.proofs.lemmas.Map.Text.{is_eq-slice_cmp}
@@ -31,7 +30,7 @@ has_either row (x ∷ xs) ys (inr more) = elim (has_either row xs ys more) [ inl
 
 -- ---- rows that the order doesn't tell apart are one
 
-texts_tied : (s t : List ℕ) → value_cmp (Text s) (Text t) ≡ Equal → s ≡ t
+pub texts_tied : (s t : List ℕ) → value_cmp (Text s) (Text t) ≡ Equal → s ≡ t
 texts_tied s t tied = (bytes_eq-Decides s t).0 (sym (is_eq-slice_cmp s t) ∙ ap is_eq (sym (value_cmp-Text s t) ∙ tied))
 
 ints_tied : (m n : ℤ) → value_cmp (Int m) (Int n) ≡ Equal → m ≡ n

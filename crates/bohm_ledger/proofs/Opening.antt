@@ -1,22 +1,21 @@
 -- A ledger that was opened is ready.
-use Rattle.std.proofs.Common.{◌≡◌, ◌⊎◌, inl, inr, ℕ, ℤ, zero, pos, ◌+◌, ◌≤◌, Bool, true, false, List, [], ◌∷◌, map, length, take, refl, sym, ap, ◌∙◌, arith, subst, if◌then◌else◌}
+use Rattle.std.proofs.Common.{◌≡◌, inl, inr, ℕ, ℤ, Bool, true, false, List, [], ◌∷◌, map, take, refl, sym, ap, ◌∙◌, arith, subst, if◌then◌else◌}
 use Rattle.std.proofs.Math.Path.{fun_ext}
 use Rattle.std.specs.Str.{bytes_eq}
 use Rattle.std.proofs.lemmas.Slice.Eq.{bytes_eq-Decides}
 use Rattle.bohm_types.specs.declared.cell.Cell.{Cell}
 use Rattle.bohm_types.specs.declared.cell.Cell.TheVariants.{Absent, Present}
 use Rattle.bohm_types.specs.declared.edition.Edition.{Edition}
-use Rattle.sqlite_value.specs.Order.{Row, bytes, column}
 use Rattle.sqlite_trees.specs.Tree.{Trees}
 use Rattle.sqlite_trees.specs.View.{View}
-use Rattle.bohm_ledger.specs.Rows.{Has, head_tree, batch_tree, balance_tree, head_row, balance_row}
+use Rattle.bohm_ledger.specs.Rows.{Has, batch_tree, balance_tree, balance_row}
 use Rattle.bohm_ledger.specs.Rules.{Look, State, Rules, AreRules, cells, run, origin, total}
-use Rattle.bohm_ledger.specs.Ledgers.{IsBalance, IsLedger, StandsFor, HasTables, IsReady}
-use Rattle.bohm_ledger.specs.Loading.{loaded, next_place, Fit}
+use Rattle.bohm_ledger.specs.Ledgers.{IsBalance, IsLedger, IsReady}
+use Rattle.bohm_ledger.specs.Loading.{loaded, next_place}
 use Rattle.bohm_ledger.specs.Steps.{IsFresh, OnlyReads}
 use Rattle.bohm_ledger.proofs.Balancing.{row_key, row_value, absent_apart, present_same}
 use Rattle.bohm_ledger.proofs.Ready.{tables_kept}
-use Rattle.bohm_ledger.proofs.Replaying.{passing, placed, Leads, Meets}
+use Rattle.bohm_ledger.proofs.Replaying.{passing, placed, Meets}
 
 -- ---- the rows of `balance` are the keys that have a value
 

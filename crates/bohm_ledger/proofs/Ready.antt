@@ -1,18 +1,17 @@
 -- A ledger that is ready stays so through its calls.
-use Rattle.std.proofs.Common.{◌≡◌, ◌⊎◌, inl, inr, ℕ, zero, suc, pos, ◌+◌, ◌<◌, ◌≤◌, Bool, true, false, List, [], ◌∷◌, ◌++◌, length, take, refl, sym, ap, ◌∙◌, arith, subst, length-append, IsTrue, Equal}
+use Rattle.std.proofs.Common.{◌≡◌, ◌⊎◌, inl, inr, ℕ, zero, suc, pos, ◌+◌, ◌≤◌, Bool, true, false, List, [], ◌∷◌, ◌++◌, length, take, refl, sym, ap, ◌∙◌, arith, subst, length-append, IsTrue, Equal}
 use Rattle.std.proofs.lemmas.List.{take_all, take-append-le}
 use Rattle.std.specs.Ordering.{match_ordering}
 use Rattle.std.specs.Cmp.{int_cmp_is}
 use Rattle.bohm_types.specs.declared.edition.Edition.{Edition}
-use Rattle.sqlite_value.specs.declared.value.Value.TheVariants.{Int}
-use Rattle.sqlite_value.specs.Order.{Row, value_cmp}
+use Rattle.sqlite_value.specs.Order.{Row}
 use Rattle.sqlite_value.proofs.OrderLemmas.{value_cmp-Int}
 use Rattle.sqlite_trees.specs.Tree.{Trees, put_row}
-use Rattle.sqlite_trees.specs.View.{View}
+use Rattle.sqlite_trees.specs.View.{View, KeepsSchema}
 use Rattle.bohm_ledger.specs.Rows.{head_tree, batch_tree, balance_tree, request_tree, head_row, AreSame}
 use Rattle.bohm_ledger.specs.Rules.{Look, State, Rules, after, run, origin, total, requests}
-use Rattle.bohm_ledger.specs.Ledgers.{MayGo, AreKept, IsBalance, IsLedger, StandsFor, HasTables, IsReady}
-use Rattle.bohm_ledger.specs.Steps.{HasBatch, HasCheckpoint, IsStored, IsUndone}
+use Rattle.bohm_ledger.specs.Ledgers.{AreKept, IsBalance, IsLedger, StandsFor, HasTables, IsReady}
+use Rattle.bohm_ledger.specs.Steps.{AreLess, HasBatch, HasCheckpoint, IsSteady, IsStored, IsUndone}
 use Rattle.bohm_ledger.proofs.Appending.{appended, run-append, run-top}
 
 total-take : {Defs : Type 0} (rules : Rules Defs) (m : ℕ) (xs : List (List ℕ)) → total rules (take m xs) ≤ total rules xs
@@ -42,6 +41,9 @@ tables_kept old new same had = record {
   balance = ap (λ (f : ℕ → _). f balance_tree) same ∙ had.balance;
   request = ap (λ (f : ℕ → _). f request_tree) same ∙ had.request;
 }
+
+pub steady_kept : (old new : View) → KeepsSchema old new → IsSteady old → IsSteady new
+steady_kept old new same was = record { tables = tables_kept old new same.shape was.tables; listed = same.shape ∙ was.listed ∙ sym same.committed_shape }
 
 module _ {Defs : Type 0} (rules : Rules Defs) (edition : Edition) (bs : List (List ℕ)) (v : View) (place checkpoint : ℕ) (state : State Defs) (saved : Look) (ready : IsReady rules edition bs v place checkpoint state saved) where
   -- the number of the next transaction
@@ -137,3 +139,31 @@ module _ {Defs : Type 0} (rules : Rules Defs) (edition : Edition) (bs : List (Li
         checkpointed = rw all (let n = next_first in omega arith);
         kept = rw all (looks ∙ ap (λ (s : State Defs). s.look) ready.ran);
       }
+
+  -- ---- forgetting
+
+  pub less : (db : Trees) (bound : ℕ) → bound ≤ checkpoint → AreLess rules bound place v.trees db → IsLedger rules edition bs ready.mark db
+  less db bound low h = record {
+    within = ready.ledger.within;
+    head = h.others head_tree (λ e. absurd (omega arith)) ∙ ready.ledger.head;
+    batches = h.kept (total rules (take ready.mark bs)) bs (let c = ready.checkpointed in omega arith) ready.placed ready.ledger.batches;
+    balance = subst (IsBalance (run rules (origin rules edition) (take ready.mark bs)).look) (sym (h.others balance_tree (λ e. absurd (omega arith)))) ready.ledger.balance;
+    requests = subst (AreSame (requests rules 1 (origin rules edition) bs)) (sym (h.others request_tree (λ e. absurd (omega arith)))) ready.ledger.requests;
+  }
+
+  pub less_outcome : (db : Trees) (bound : ℕ) (Before : Type 0) → bound ≤ checkpoint → (Before → db ≡ v.committed) → AreLess rules bound place v.trees db ⊎ Before → StandsFor rules edition bs db
+  less_outcome db bound Before low settled (inl h) = (ready.mark, less db bound low h)
+  less_outcome db bound Before low settled (inr before) = as_before db (settled before)
+
+  pub less_ready : (new : View) (bound : ℕ) → bound ≤ checkpoint → AreLess rules bound place v.trees new.trees → IsStored v new → IsReady rules edition bs new place checkpoint state saved
+  less_ready new bound low h stored = record {
+    sound = stored.sound;
+    settled = stored.settled;
+    tables = tables_kept v new stored.shape ready.tables;
+    mark = ready.mark;
+    ledger = less new.trees bound low h;
+    placed = ready.placed;
+    ran = ready.ran;
+    checkpointed = ready.checkpointed;
+    kept = ready.kept;
+  }

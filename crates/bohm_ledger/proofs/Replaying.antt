@@ -1,11 +1,11 @@
 -- Opening a ledger's rows leads to the state after all its batches.
-use Rattle.std.proofs.Common.{◌≡◌, ◌⊎◌, inl, inr, ℕ, zero, suc, pos, ◌+◌, ◌<◌, ◌≤◌, Bool, true, false, ltb, List, [], ◌∷◌, ◌++◌, length, take, refl, sym, ap, ◌∙◌, arith, subst, if◌then◌else◌}
+use Rattle.std.proofs.Common.{◌≡◌, ◌⊎◌, inl, inr, ℕ, zero, suc, ◌+◌, ◌<◌, ◌≤◌, true, false, ltb, List, [], ◌∷◌, length, take, refl, sym, ap, ◌∙◌, arith, subst}
 use Rattle.std.proofs.lemmas.Bool.{le-ltb, lt-ltb}
 use Rattle.sqlite_value.specs.Order.{Row}
-use Rattle.bohm_ledger.specs.Rows.{batch_row, place_of, first_of, text_of}
-use Rattle.bohm_ledger.specs.Rules.{Look, State, Rules, AreRules, after, run, total}
-use Rattle.bohm_ledger.specs.Ledgers.{MayGo, AreKept}
-use Rattle.bohm_ledger.specs.Loading.{passed, taken, loaded, next_place, FitsRow, Fit}
+use Rattle.bohm_ledger.specs.Rows.{batch_row}
+use Rattle.bohm_ledger.specs.Rules.{State, Rules, AreRules, after, run, total}
+use Rattle.bohm_ledger.specs.Ledgers.{AreKept}
+use Rattle.bohm_ledger.specs.Loading.{passed, taken, loaded, next_place, Fit}
 
 module _ {Defs : Type 0} (rules : Rules Defs) (meets : AreRules rules) (c : ℕ) where
   -- the rows lead from the one state to the other, and each fits

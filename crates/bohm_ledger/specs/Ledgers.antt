@@ -1,5 +1,5 @@
 -- Which trees hold a ledger.
-use Rattle.std.specs.Prelude.{◌≡◌, ◌⊎◌, ℕ, ℤ, ◌+◌, ◌<◌, ◌≤◌, true, false, List, [], ◌∷◌, ◌++◌, length, take}
+use Rattle.std.specs.Prelude.{◌≡◌, ◌⊎◌, ℕ, ℤ, ◌+◌, ◌<◌, ◌≤◌, true, false, List, [], ◌∷◌, length, take}
 use Rattle.bohm_types.specs.declared.cell.Cell.TheVariants.{Present}
 use Rattle.bohm_types.specs.declared.edition.Edition.{Edition}
 use Rattle.sqlite_value.specs.Order.{Row}
@@ -58,3 +58,10 @@ pub record IsReady {Defs : Type 0} (rules : Rules Defs) (edition : Edition) (bs 
   pub ran : state ≡ run rules (origin rules edition) bs
   pub checkpointed : checkpoint ≡ total rules (take mark bs)
   pub kept : saved ≡ (run rules (origin rules edition) (take mark bs)).look
+
+-- the four tables are empty
+pub record IsBlank (db : Trees) : Type 0 where
+  pub head : db head_tree ≡ []
+  pub batch : db batch_tree ≡ []
+  pub balance : db balance_tree ≡ []
+  pub request : db request_tree ≡ []

@@ -1,5 +1,5 @@
 -- What opening makes of a ledger's rows.
-use Rattle.std.specs.Prelude.{◌≡◌, ◌⊎◌, ℕ, ◌+◌, ◌<◌, ◌≤◌, List, [], ◌∷◌, Bool, nat_lt, if◌then◌else◌, ⊤}
+use Rattle.std.specs.Prelude.{◌≡◌, ◌⊎◌, ℕ, ◌+◌, ◌≤◌, List, [], ◌∷◌, nat_lt, if◌then◌else◌, ⊤}
 use Rattle.sqlite_value.specs.Order.{Row}
 use Rattle.bohm_ledger.specs.Rows.{batch_row, place_of, first_of, text_of}
 use Rattle.bohm_ledger.specs.Rules.{State, Rules, after}

@@ -62,3 +62,7 @@ Has row (r ∷ rows) = (row ≡ r) ⊎ Has row rows
 pub record AreSame (xs ys : List Row) : Type 0 where
   pub there : (row : Row) → Has row xs → Has row ys
   pub back : (row : Row) → Has row ys → Has row xs
+
+-- the rows are those of requests
+abbrev pub AreRequests : List Row → Type 0
+AreRequests rows = (row : Row) → Has row rows → (place : ℕ) × (e : List ℕ × List ℕ) × (row ≡ request_row place e)

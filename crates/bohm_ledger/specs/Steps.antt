@@ -1,16 +1,17 @@
 -- What each step of a ledger does to the trees of its store.
-use Rattle.std.specs.Prelude.{◌≡◌, ◌≢◌, ◌⊎◌, ℕ, ℤ, ◌+◌, false, List, [], ◌∷◌, map, Option, Some, None, if◌then◌else◌}
+use Rattle.std.specs.Prelude.{◌≡◌, ◌≢◌, ◌≤◌, ◌⊎◌, ℕ, ◌+◌, Bool, true, false, length, List, [], ◌∷◌, Option, Some, None, if◌then◌else◌}
 use Rattle.std.specs.Str.{bytes_eq}
 use Rattle.bohm_types.specs.declared.cell.Cell.{Cell}
 use Rattle.bohm_types.specs.declared.cell.Cell.TheVariants.{Absent, Present}
 use Rattle.bohm_types.specs.declared.edition.Edition.{Edition}
-use Rattle.sqlite_value.specs.Order.{Row}
+use Rattle.sqlite_value.specs.Order.{Row, column}
+use Rattle.sqlite_value.specs.declared.value.Value.TheVariants.{Text}
 use Rattle.sqlite_value.specs.Keys.{plain}
 use Rattle.sqlite_trees.specs.Tree.{Trees, put_row, insert_entry, remove_entry}
 use Rattle.sqlite_trees.specs.View.{View, OnlyWrites}
-use Rattle.bohm_ledger.specs.Rows.{head_tree, batch_tree, balance_tree, request_tree, head_row, batch_row, balance_row, request_row}
-use Rattle.bohm_ledger.specs.Rules.{Look}
-use Rattle.bohm_ledger.specs.Ledgers.{HasTables, IsBalance}
+use Rattle.bohm_ledger.specs.Rows.{Has, head_tree, batch_tree, balance_tree, request_tree, head_row, batch_row, balance_row, request_row}
+use Rattle.bohm_ledger.specs.Rules.{Look, Rules}
+use Rattle.bohm_ledger.specs.Ledgers.{HasTables, IsBalance, AreKept}
 
 -- one tree has these rows now, and no other differs
 pub record Sets (old new : View) (tree : ℕ) (rows : List Row) : Type 0 where
@@ -101,3 +102,24 @@ pub record HasCheckpoint (old : Trees) (edition : Edition) (top : ℕ) (look : L
   pub balance : IsBalance look (db balance_tree)
   pub batch : db batch_tree ≡ old batch_tree
   pub request : db request_tree ≡ old request_tree
+
+-- some batches whose transactions are all at or below the bound left, and no other row differs
+pub record Forgets {Defs : Type 0} (rules : Rules Defs) (bound next : ℕ) (old new : View) : Type 0 where
+  pub kept : (checkpoint : ℕ) (bs : List (List ℕ)) → bound ≤ checkpoint → next ≡ 1 + length bs → AreKept rules checkpoint 1 1 bs (old.trees batch_tree) → AreKept rules checkpoint 1 1 bs (new.trees batch_tree)
+  pub others : (t : ℕ) → t ≢ batch_tree → new.trees t ≡ old.trees t
+  pub rest : OnlyWrites old new
+
+-- the same of trees
+pub record AreLess {Defs : Type 0} (rules : Rules Defs) (bound next : ℕ) (old new : Trees) : Type 0 where
+  pub kept : (checkpoint : ℕ) (bs : List (List ℕ)) → bound ≤ checkpoint → next ≡ 1 + length bs → AreKept rules checkpoint 1 1 bs (old batch_tree) → AreKept rules checkpoint 1 1 bs (new batch_tree)
+  pub others : (t : ℕ) → t ≢ batch_tree → new t ≡ old t
+
+-- the row has the id and is one of these, or none of them has the id
+abbrev pub Finds : List ℕ → Row → Bool → List Row → Type 0
+Finds id row true rows = Has row rows × (column row 0 ≡ Text id)
+Finds id row false rows = (place : ℕ) (answer : List ℕ) → ¬ Has (request_row place (id, answer)) rows
+
+-- the trees with the row of a new ledger
+pub record IsFounded (old : Trees) (edition : Edition) (db : Trees) : Type 0 where
+  pub head : db head_tree ≡ put_row (head_row edition 0) (old head_tree)
+  pub others : (t : ℕ) → t ≢ head_tree → db t ≡ old t

@@ -1,14 +1,19 @@
 //! A ledger: batches in a store, and a machine that has run them.
 
-ghost use Rattle.std.specs.Prelude.{◌≡◌, ◌⊎◌, ◌++◌, ◌<◌, ◌^◌, ◌≤◌, ℕ, List, [], ◌∷◌, true, false, IfOk, IfErr, OnOk, OnErr, IsTrue};
+ghost use Rattle.std.specs.Prelude.{◌≡◌, ◌⊎◌, ◌++◌, ◌<◌, ◌^◌, ◌≤◌, ℕ, List, [], ◌∷◌, true, false, MatchOption, IfOk, IfErr, OnOk, OnErr, IsTrue};
 ghost use Rattle.sqlite_trees.specs.Tree.{Trees};
 ghost use Rattle.sqlite_trees.specs.View.{doubt, IsClean};
 ghost use Rattle.bohm_types.specs.declared.edition.Edition.{Edition as TheEdition};
-ghost use Rattle.bohm_ledger.specs.Ledgers.{IsReady, StandsFor};
+ghost use Rattle.bohm_ledger.specs.Rows.{Has, request_row};
+ghost use Rattle.bohm_ledger.specs.Rules.{origin, requests};
+ghost use Rattle.bohm_ledger.specs.Ledgers.{IsBlank, IsReady, StandsFor};
 ghost use Rattle.bohm_ledger.specs.Steps.{IsSteady};
 
 use crate::balance::replace;
+use crate::create::create;
 use crate::error::Fault;
+use crate::find::find;
+use crate::forget::forget;
 use crate::keep::keep;
 use crate::load::{Loaded, load};
 use crate::machine::Machine;
@@ -16,6 +21,7 @@ use crate::tables::LIMIT;
 use bohm_types::Edition;
 use sqlite_trees::store::Store;
 use sqlite_value::row::Row;
+use sqlite_value::value::ValueRef;
 use std::alloc::Global;
 
 /// Batches of entries in a store, and a machine that has run them.
@@ -33,10 +39,46 @@ pub struct Ledger<S: Store + Drop, M: Machine + Drop> {
     row: Row,
     alloc: Global,
     ghost small: { place < 2 ^ 63 },
+    ghost low: { checkpoint < 2 ^ 63 },
     ghost steady: { IsClean (S.view store) → IsSteady (S.view store) },
 }
 
 impl<S: Store + Drop, M: Machine + Drop> Ledger<S, M> {
+    /// Makes a ledger of this edition in a store whose tables are empty. It fails with `NotEmpty`
+    /// if there is one. An `Err` hands the store back.
+    pub fn create(
+        alloc: Global,
+        mut store: S,
+        mut machine: M,
+        edition: Edition,
+    ) -> Result<Ledger<S, M>, (Fault, S)>
+        ensures ready { IfOk result (λ it. IsClean (S.view it.store) → IsBlank (S.view store).committed
+            → IsReady M.rules edition [] (S.view it.store) it.place it.checkpoint (M.state it.machine) (M.saved it.machine)) }
+        ensures edition { IfOk result (λ it. it.edition ≡ edition) }
+        ensures clean { IfOk result (λ it. doubt (S.view store).is_clean ≤ doubt (S.view it.store).is_clean) }
+
+        // A crash on the way leaves the ledger without batches, or what it could have left before.
+        ensures any_moment { IfOk result (λ it. IsClean (S.view it.store) → IsBlank (S.view store).committed
+            → (db : Trees) → S.recovers it.store db → StandsFor M.rules edition [] db ⊎ S.recovers store db) }
+        ensures any_moment_err { IfErr result (λ e. IsClean (S.view e.1) → IsBlank (S.view store).committed
+            → (db : Trees) → S.recovers e.1 db → StandsFor M.rules edition [] db ⊎ S.recovers store db) }
+    {
+        let mut row = Row::new(alloc);
+        match create(&mut store, &mut machine, &mut row, edition) {
+            Ok(()) => Ok(Ledger {
+                store,
+                machine,
+                edition,
+                place: 1,
+                checkpoint: 0,
+                is_behind: false,
+                row,
+                alloc,
+            }),
+            Err(fault) => Err((fault, store)),
+        }
+    }
+
     /// Opens the ledger that the store has committed: takes its checkpoint in, and runs the
     /// batches after it in order. An `Err` hands the store back. The time grows with the number of
     /// keys, the number of batches in the store, and the time of running those after the
@@ -159,6 +201,58 @@ impl<S: Store + Drop, M: Machine + Drop> Ledger<S, M> {
         self.machine.note_checkpoint();
         self.checkpoint = top;
         Ok(())
+    }
+
+    /// Takes the batches out of the store whose transactions are all at or below this one and the
+    /// checkpoint, and commits. Batches with a definition stay, and the last one. The time grows
+    /// with the number of batches that are looked at.
+    pub fn forget_before(&mut self, sequence: u64) -> Result<(), Fault>
+        ensures ready { OnOk result (IsClean (S.view self.new.store) → (bs : List (List ℕ))
+            → IsReady M.rules self.old.edition bs (S.view self.old.store) self.old.place self.old.checkpoint (M.state self.old.machine) (M.saved self.old.machine)
+            → IsReady M.rules self.old.edition bs (S.view self.new.store) self.new.place self.new.checkpoint (M.state self.new.machine) (M.saved self.new.machine)) }
+        ensures unchanged { OnErr result (IsClean (S.view self.new.store) → IsTrue (S.view self.new.store).is_open → (bs : List (List ℕ))
+            → IsReady M.rules self.old.edition bs (S.view self.old.store) self.old.place self.old.checkpoint (M.state self.old.machine) (M.saved self.old.machine)
+            → IsReady M.rules self.old.edition bs (S.view self.new.store) self.new.place self.new.checkpoint (M.state self.new.machine) (M.saved self.new.machine)) }
+        ensures edition { self.new.edition ≡ self.old.edition }
+        ensures clean { doubt (S.view self.old.store).is_clean ≤ doubt (S.view self.new.store).is_clean }
+
+        // A crash at any moment of the call leaves the same batches.
+        ensures any_moment { IsClean (S.view self.new.store) → (bs : List (List ℕ))
+            → IsReady M.rules self.old.edition bs (S.view self.old.store) self.old.place self.old.checkpoint (M.state self.old.machine) (M.saved self.old.machine)
+            → (db : Trees) → S.recovers self.new.store db → StandsFor M.rules self.old.edition bs db }
+    {
+        let bound = sequence.min(self.checkpoint);
+        forget(
+            &mut self.store,
+            &self.machine,
+            &mut self.row,
+            bound,
+            self.place,
+        )?;
+        Ok(())
+    }
+
+    /// The answer to the entry with this id, if one was stored. The time is that of one search.
+    pub fn answer_to(&mut self, id: &[u8]) -> Result<Option<Vec<u8>>, Fault>
+        ensures found { IfOk result (λ it. IsClean (S.view self.new.store) → (bs : List (List ℕ))
+            → IsReady M.rules self.old.edition bs (S.view self.old.store) self.old.place self.old.checkpoint (M.state self.old.machine) (M.saved self.old.machine)
+            → MatchOption it
+            ((place : ℕ) (answer : List ℕ) → ¬ Has (request_row place (id.now, answer)) (requests M.rules 1 (origin M.rules self.old.edition) bs))
+            (λ answer. (place : ℕ) × Has (request_row place (id.now, answer.items)) (requests M.rules 1 (origin M.rules self.old.edition) bs))) }
+        ensures ready { IsClean (S.view self.new.store) → OnOk result ((bs : List (List ℕ))
+            → IsReady M.rules self.old.edition bs (S.view self.old.store) self.old.place self.old.checkpoint (M.state self.old.machine) (M.saved self.old.machine)
+            → IsReady M.rules self.old.edition bs (S.view self.new.store) self.new.place self.new.checkpoint (M.state self.new.machine) (M.saved self.new.machine)) }
+        ensures edition { self.new.edition ≡ self.old.edition }
+        ensures clean { doubt (S.view self.old.store).is_clean ≤ doubt (S.view self.new.store).is_clean }
+        ensures any_moment { (db : Trees) → S.recovers self.new.store db → S.recovers self.old.store db }
+    {
+        if !find(&mut self.store, &mut self.row, id)? {
+            return Ok(None);
+        }
+        match self.row.get(2) {
+            ValueRef::Text(answer) => Ok(Some(Vec::from_slice(self.alloc, answer)?)),
+            _ => Err(Fault::NoLedger),
+        }
     }
 
     /// Takes it apart, with the machine and the store as they are.

@@ -3,13 +3,18 @@
 #![tactic(auto)]
 
 mod balance;
+mod crash;
+mod create;
 mod error;
+mod find;
+mod forget;
 mod keep;
 mod ledger;
 mod load;
 mod machine;
 mod tables;
 
+pub use crash::restart;
 pub use error::Fault;
 pub use ledger::Ledger;
 pub use machine::{Answer, Machine, Ran};

@@ -174,7 +174,7 @@ pub(crate) fn load<S: Store, M: Machine>(
     ensures ready { IfOk result (λ it. IsClean (S.view store.new) → (edition : TheEdition) (bs : List (List ℕ))
         → StandsFor M.rules edition bs (S.view store.old).committed → (it.edition ≡ edition)
         × IsReady M.rules edition bs (S.view store.new) it.place it.checkpoint (M.state machine.new) (M.saved machine.new)) }
-    ensures small { IfOk result (λ it. it.place < 2 ^ 63) }
+    ensures small { IfOk result (λ it. (it.place < 2 ^ 63) × (it.checkpoint < 2 ^ 63)) }
     ensures steady { OnOk result (IsClean (S.view store.new) → IsSteady (S.view store.new)) }
     ensures same { OnOk result (IsClean (S.view store.new) → (S.view store.new).trees ≡ (S.view store.old).committed) }
     ensures quiet { IsQuiet S.view S.faults S.recovers S.is_shielded store.old store.new }

@@ -1,4 +1,4 @@
-use Rattle.std.proofs.Common.{◌≡◌, ◌⊎◌, inl, ◌+◌, refl, sym, ap, ◌∙◌, subst, take, get_or, rules, arith, ◌++◌, [], ◌∷◌}
+use Rattle.std.proofs.Common.{◌≡◌, inl, ◌+◌, refl, sym, ap, ◌∙◌, subst, take, rules, arith, ◌++◌, [], ◌∷◌}
 use Rattle.std.proofs.lemmas.List.{take_all, take_more}
 use Rattle.sqlite_trees.specs.View.{IsClean}
 use Rattle.bohm_ledger.specs.Rows.{balance_tree}

@@ -1,7 +1,7 @@
-use Rattle.std.proofs.Common.{◌≡◌, arith, ap, sym, ◌∙◌, take}
+use Rattle.std.proofs.Common.{arith, ap, ◌∙◌, take}
 use Rattle.sqlite_trees.specs.Tree.{Trees}
 use Rattle.sqlite_trees.specs.View.{IsClean}
-use Rattle.bohm_ledger.specs.Rows.{head_tree, balance_row}
+use Rattle.bohm_ledger.specs.Rows.{head_tree}
 use Rattle.bohm_ledger.specs.Rules.{cells, total}
 use Rattle.bohm_ledger.proofs.Opening as lemma
 use Rattle.bohm_ledger.proofs.load.load.Goals as goal

@@ -1,4 +1,4 @@
-use Rattle.std.proofs.Common.{◌≡◌, map, ap, ◌∙◌, ◌++◌, rules, arith, refl}
+use Rattle.std.proofs.Common.{map, ap, ◌∙◌, ◌++◌, rules, arith, refl}
 use Rattle.sqlite_trees.specs.View.{IsClean}
 use Rattle.bohm_ledger.specs.Rows.{balance_row}
 use Rattle.bohm_ledger.proofs.Reading as lemma

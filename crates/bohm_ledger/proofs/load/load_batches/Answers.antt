@@ -1,4 +1,4 @@
-use Rattle.std.proofs.Common.{rules, arith, refl}
+use Rattle.std.proofs.Common.{rules, refl}
 use Rattle.bohm_ledger.proofs.Reading as lemma
 use Rattle.bohm_ledger.proofs.load.load_batches.Goals as goal
 

@@ -1,4 +1,4 @@
-use Rattle.std.proofs.Common.{◌≡◌, ◌⊎◌, inl, inr, ◌+◌, arith, sym, ◌∙◌, subst}
+use Rattle.std.proofs.Common.{◌≡◌, arith, sym, ◌∙◌, subst}
 use Rattle.bohm_ledger.proofs.Ready as lemma
 use Rattle.bohm_ledger.specs.Ledgers.{IsLedger}
 use Rattle.bohm_ledger.proofs.ledger.Ledger.append.Goals as goal

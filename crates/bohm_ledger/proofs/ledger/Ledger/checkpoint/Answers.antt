@@ -1,4 +1,3 @@
-use Rattle.std.proofs.Common.{◌≡◌, ◌⊎◌, arith, refl}
 use Rattle.std.proofs.lemmas.Result.{err_from_is_err_and}
 use Rattle.bohm_ledger.proofs.Ready as lemma
 use Rattle.bohm_ledger.proofs.ledger.Ledger.checkpoint.Goals as goal
