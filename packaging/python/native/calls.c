@@ -202,21 +202,12 @@ static PyObject *call_repr(PyObject *self) {
     return text;
 }
 
-static int call_traverse(PyObject *self, visitproc visit, void *arg) {
-    call_object *call = (call_object *)self;
-    Py_VISIT(Py_TYPE(self));
-    Py_VISIT((PyObject *)call->procedure);
-    for (Py_ssize_t i = 0; call->procedure && i < call->procedure->key_count; i++) Py_VISIT(call->keys[i].object);
-    return 0;
-}
-
 static void call_dealloc(PyObject *self) {
     call_object *call = (call_object *)self;
     PyTypeObject *type = Py_TYPE(self);
-    PyObject_GC_UnTrack(self);
     if (call->procedure) drop_arguments(call->keys, call->procedure->key_count);
     Py_XDECREF(call->procedure);
-    PyObject_GC_Del(self);
+    PyObject_Free(self);
     Py_DECREF(type);
 }
 
@@ -228,9 +219,10 @@ static PyGetSetDef call_getters[] = {
     {0}};
 static PyType_Slot call_slots[] = {
     {Py_tp_doc, "A procedure with its arguments."}, {Py_tp_new, call_new}, {Py_tp_dealloc, call_dealloc},
-    {Py_tp_traverse, call_traverse}, {Py_tp_repr, call_repr}, {Py_tp_members, call_members}, {Py_tp_getset, call_getters}, {0}};
-static PyType_Spec call_spec = {
-    "bohm._native.Call", sizeof(call_object), CALL_UNIT, Py_TPFLAGS_DEFAULT | Py_TPFLAGS_HAVE_GC, call_slots};
+    {Py_tp_repr, call_repr}, {Py_tp_members, call_members}, {Py_tp_getset, call_getters}, {0}};
+/* Without support for the collector of cycles, which would take as long for 100,000 calls as running them. So a machine that
+ * has calls of its own among its attributes is freed by `close` alone. */
+static PyType_Spec call_spec = {"bohm._native.Call", sizeof(call_object), CALL_UNIT, Py_TPFLAGS_DEFAULT, call_slots};
 
 PyTypeObject *make_call_type(void) { return (PyTypeObject *)PyType_FromSpec(&call_spec); }
 
@@ -280,6 +272,7 @@ static PyObject *procedure_close(PyObject *self, PyObject *nothing) {
     if (!procedure->machine || !procedure->procedure.at) Py_RETURN_NONE;
     if (take_turn(&procedure->machine->writing) < 0) return NULL;
     procedure->machine->table->close_procedure(&procedure->procedure);
+    procedure->machine->closings++;
     pass_turn(&procedure->machine->writing);
     Py_RETURN_NONE;
 }

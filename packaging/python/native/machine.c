@@ -135,7 +135,8 @@ static PyObject *machine_value_at(PyObject *self, PyObject *args, PyObject *name
     PyObject *key, *ts = NULL, *held;
     const char *at;
     size_t len;
-    if (!PyArg_ParseTupleAndKeywords(args, named, "O|O", words, &key, &ts)) return NULL;
+    if (!named && PyTuple_Size(args) == 1) key = PyTuple_GetItem(args, 0);
+    else if (!PyArg_ParseTupleAndKeywords(args, named, "O|O", words, &key, &ts)) return NULL;
     int is = key_bytes(key, &at, &len, &held);
     if (is < 0) return NULL;
     if (!is) return PyErr_Format(no_key_error, "%R is not a key", key);

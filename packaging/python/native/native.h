@@ -196,6 +196,7 @@ struct machine_object {
     known_key *keys;
     uint32_t *handles[3]; /* those of the keys on the machine, and in the lists of editions 1 and 2 */
     size_t key_count, key_room;
+    size_t closings; /* how many of its procedures were closed */
     PyObject *indices; /* the place in `keys` of each key that was looked up, by its bytes */
     int is_held; /* whether replies wait in the library, of the transactions after `held_behind` */
     uint32_t held_behind, lone_behind;

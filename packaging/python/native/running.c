@@ -179,7 +179,7 @@ PyObject *call_once(procedure_object *procedure, PyObject *args, PyObject *named
 typedef struct job {
     machine_object *machine;
     replies_object *replies;
-    size_t batches, *ends;                                       /* the place behind each batch: a call's, or a byte's */
+    size_t batches, room, *ends;                                 /* the place behind each batch: a call's, or a byte's */
     int is_long;                                                 /* whether the interpreter's lock is released */
     uint32_t top;                                                /* the machine's, behind the last batch */
     uint32_t (*run)(struct job *job, size_t from, size_t to);    /* runs a batch, whose replies wait */
@@ -290,46 +290,50 @@ static uint32_t run_calls(job *job, size_t from, size_t to) {
     return status;
 }
 
-/* Takes the calls of a tuple. Each must be one of the machine. */
+/* Ends the batch that is being made before a place. */
+static int end_batch(job *job, size_t place) {
+    if (job->batches == job->room) {
+        size_t room = 2 * job->room + 16;
+        size_t *ends = PyMem_Realloc(job->ends, room * sizeof *ends);
+        if (!ends) return PyErr_NoMemory(), -1;
+        job->ends = ends;
+        job->room = room;
+    }
+    job->ends[job->batches++] = place;
+    return 0;
+}
+
+/* A call at a place of a run of the machine; null with an exception set if it is none. */
+static call_object *call_at(const machine_object *machine, PyObject *calls, size_t place) {
+    PyObject *given = PyTuple_GetItem(calls, (Py_ssize_t)place);
+    call_object *call = (call_object *)given;
+    if (Py_TYPE(given) != call_type) PyErr_Format(PyExc_TypeError, "call %zu: %R is not a Call", place, given);
+    else if (call->procedure->machine != machine) PyErr_Format(PyExc_ValueError, "call %zu: the procedure belongs to another machine", place);
+    else if (!call->procedure->procedure.at) PyErr_Format(closed_error, "call %zu: the procedure is closed", place);
+    else return call;
+    return NULL;
+}
+
+/* Takes the calls of a tuple, in batches, each of one edition. */
 static int take_calls(job *job, PyObject *calls, size_t count) {
+    size_t begin = 0;
     job->calls = PyMem_Malloc((count ? count : 1) * sizeof *job->calls);
     if (!job->calls) return PyErr_NoMemory(), -1;
     for (size_t i = 0; i < count; i++) {
-        PyObject *call = PyTuple_GetItem(calls, (Py_ssize_t)i);
-        if (Py_TYPE(call) != call_type) {
-            PyErr_Format(PyExc_TypeError, "call %zu: %R is not a Call", i, call);
-            return -1;
-        }
-        job->calls[i] = (call_object *)call;
-        if (job->calls[i]->procedure->machine != job->machine) {
-            PyErr_Format(PyExc_ValueError, "call %zu: the procedure belongs to another machine", i);
-            return -1;
-        }
+        call_object *call = job->calls[i] = call_at(job->machine, calls, i);
+        if (!call) return -1;
+        if (i - begin < BATCH && call->procedure->edition == job->calls[begin]->procedure->edition) continue;
+        if (end_batch(job, i) < 0) return -1;
+        begin = i;
     }
-    return 0;
+    return count ? end_batch(job, count) : 0;
 }
 
-static size_t batch_end(const job *job, size_t from, size_t count) {
-    size_t end = from + 1;
-    while (end < count && end - from < BATCH && job->calls[end]->procedure->edition == job->calls[from]->procedure->edition) end++;
-    return end;
-}
-
-/* Divides the calls into batches, each of one edition. */
-static int divide_calls(job *job, size_t count) {
-    size_t room = 0;
-    for (size_t from = 0; from < count; from = batch_end(job, from, count)) room++;
-    job->ends = PyMem_Malloc((room + 1) * sizeof *job->ends);
-    if (!job->ends) return PyErr_NoMemory(), -1;
-    for (size_t from = 0; from < count; job->batches++) from = job->ends[job->batches] = batch_end(job, from, count);
-    return 0;
-}
-
-static int are_open(const job *job, size_t count) {
+/* Whether the calls can still be run, now that the machine can't change: a procedure may have been closed meanwhile. */
+static int are_still_open(const job *job, PyObject *calls, size_t count, size_t closings) {
     size_t i = 0;
-    while (i < count && job->calls[i]->procedure->procedure.at) i++;
-    if (i < count) PyErr_Format(closed_error, "call %zu: the procedure is closed", i);
-    return i == count;
+    while (closings != job->machine->closings && i < count && call_at(job->machine, calls, i)) i++;
+    return !PyErr_Occurred();
 }
 
 PyObject *machine_run(machine_object *machine, PyObject *calls) {
@@ -337,8 +341,9 @@ PyObject *machine_run(machine_object *machine, PyObject *calls) {
     if (!all) return NULL;
     size_t count = (size_t)PyTuple_Size(all);
     job job = {.machine = machine, .run = run_calls, .is_long = count >= MANY_CALLS};
-    if (!take_calls(&job, all, count) && !divide_calls(&job, count) && !begin_run(machine)) {
-        if (are_open(&job, count) && has_timestamps(machine, count)) replies = run_job(&job);
+    size_t closings = machine->closings;
+    if (!take_calls(&job, all, count) && !begin_run(machine)) {
+        if (are_still_open(&job, all, count, closings) && has_timestamps(machine, count)) replies = run_job(&job);
         else end_writing(machine);
     }
     drop_job(&job);
