@@ -8,8 +8,10 @@ from ._core import Table
 
 Text = Union[str, bytes, bytearray, memoryview]
 
-# The shared object's name, which changes with the interface that programs rely on, and the interface that has a number.
+# The shared object's name, which changes with the interface that programs rely on.
 SHARED = "libbohm.so.1"
+
+# The number of that interface.
 ABI = 1
 FUNCTIONS = (
     "bohm_answer", "bohm_open", "bohm_apply_held", "bohm_rows", "bohm_value_at", "bohm_store_at", "bohm_digest", "bohm_trim",
