@@ -508,7 +508,8 @@ class Habits(unittest.TestCase):
                 ((good[0], good[1][1:], good[2]), ValueError, "to has 4999 items"), (good[:2], TypeError, "3 columns"),
                 ((*good, good[0]), TypeError, "3 columns"), ((*good[:2], array("d", good[2])), TypeError, "amount"),
                 ((b"aaa", *good[1:]), TypeError, "from"), ((5, *good[1:]), TypeError, "from"), ((*good[:2], [1 << 63] * 5000), OverflowError, ""),
-                ((["a", "b", "A"], *good[1:]), bohm.NoKeyError, r"from\[2\]: 'A' is not a key"), (([a], *good[1:]), TypeError, r"from\[0\]: "), ((*good[:2], memoryview(bytes(8)).cast("B", (2, 4))), TypeError, "amount")):
+                ((["a", "b", "A"], *good[1:]), bohm.NoKeyError, r"from\[2\]: 'A' is not a key"),
+                (([a], *good[1:]), TypeError, r"from\[0\]: "), ((*good[:2], memoryview(bytes(8)).cast("B", (2, 4))), TypeError, "amount")):
             with self.assertRaisesRegex(kind, told):
                 machine.run_many(transfer, *columns)
         with self.assertRaises(ValueError):
@@ -531,6 +532,17 @@ class Habits(unittest.TestCase):
         self.assertEqual(hash(replies[0]), hash(right[0]))
         aborted = machine.run([add.call("none", 2)])[0]
         self.assertEqual(aborted, bohm.Reply(11, (), bohm.Reason.ABSENT, 2))
+
+    def test_answers(self):
+        log = "log 2\na 1\n" + "txn\nreads a\nwrites a\nneed a < 3\nset a = a + 1\nshow a\nend\n" * 3
+        answer = bohm.answer(log, library=LIBRARY)
+        right = [bohm.Reply(1, (2,)), bohm.Reply(2, (3,)), bohm.Reply(3, (), bohm.Reason.NEED, 1)]
+        self.assertEqual((answer.replies, answer.replies[1:], answer.replies[-1], answer.store), (right, right[1:], right[2], {"a": 3}))
+        self.assertEqual(str(answer), "1 commit 2\n2 commit 3\n3 abort need 1\n--\na 3\n")
+        machine = opened("a 1\n")
+        self.assertEqual(machine.apply("log 2\n" + log.partition("\na 1\n")[2]), answer.replies)
+        with self.assertRaises(bohm.RefusedError):
+            bohm.answer("log 2\nb 1\na 1\n", library=LIBRARY)
 
     def test_nothing_is_copied(self):
         machine = opened()

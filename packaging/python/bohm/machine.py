@@ -1,29 +1,19 @@
 """Machines: stores with their past, to which segments and calls are applied."""
 from array import array
-from typing import Any, Dict, Iterator, List, NamedTuple, NoReturn, Optional, Sequence, Tuple, Union
+from typing import Any, Dict, Iterator, List, NamedTuple, NoReturn, Optional, Tuple, Union
 
 from . import _core
 from ._core import Key
 from .errors import NoKeyError
 from .library import Library, Text, drawn_seed, load, octets
 from .procedures import Procedure
-from .replies import Answer, Reply, answer_of, store_of
+from .replies import Answer, ReplySequence, answer_of, store_of
 
 
-class Replies(_core.Rows, Sequence[Reply]):
+class Replies(_core.Rows, ReplySequence):
     """The replies of a call, each made when it is looked at. It is a sequence, and equals a list of the same replies."""
 
     __slots__ = ()
-
-    def __eq__(self, other: object) -> bool:
-        if not isinstance(other, (Replies, list, tuple)):
-            return NotImplemented
-        return len(self) == len(other) and all(mine == theirs for mine, theirs in zip(self, other))
-
-    __hash__ = None  # type: ignore[assignment]
-
-    def __repr__(self) -> str:
-        return repr(self[:]) if len(self) <= 20 else f"<{len(self)} replies, {self[0]!r} to {self[-1]!r}>"
 
 
 _core.use_replies(Replies)

@@ -1,6 +1,6 @@
 """Replies, and the answers of whole logs."""
 import enum
-from typing import Dict, List, NamedTuple, Optional, Sequence, Tuple
+from typing import Any, Dict, List, NamedTuple, Optional, Sequence, Tuple
 
 
 class Reason(enum.Enum):
@@ -37,6 +37,37 @@ class Reply(NamedTuple):
 REASONS = (None, Reason.NEED, Reason.FAIL, Reason.ABSENT, Reason.RANGE)
 
 
+class ReplySequence(Sequence[Reply]):
+    """Replies that are made when they are looked at. It equals a list of the same replies."""
+
+    __slots__ = ()
+
+    def __eq__(self, other: object) -> bool:
+        if not isinstance(other, (ReplySequence, list, tuple)):
+            return NotImplemented
+        return len(self) == len(other) and all(mine == theirs for mine, theirs in zip(self, other))
+
+    __hash__ = None  # type: ignore[assignment]
+
+    def __repr__(self) -> str:
+        return repr(list(self)) if len(self) <= 20 else f"<{len(self)} replies, {self[0]!r} to {self[-1]!r}>"
+
+
+class ReplyLines(ReplySequence):
+    """The replies of lines of an answer."""
+
+    __slots__ = ("_lines",)
+
+    def __init__(self, lines: List[str]) -> None:
+        self._lines = lines
+
+    def __len__(self) -> int:
+        return len(self._lines)
+
+    def __getitem__(self, place: Any) -> Any:
+        return [reply_of(line) for line in self._lines[place]] if isinstance(place, slice) else reply_of(self._lines[place])
+
+
 class Answer(NamedTuple):
     """The replies of a log, and the final store. `str` returns the answer's text."""
 
@@ -63,4 +94,4 @@ def store_of(lines: List[str]) -> Dict[str, int]:
 def answer_of(text: bytes) -> Answer:
     lines = text.decode().splitlines()
     end = lines.index("--")
-    return Answer([reply_of(line) for line in lines[:end]], store_of(lines[end + 1:]))
+    return Answer(ReplyLines(lines[:end]), store_of(lines[end + 1:]))
