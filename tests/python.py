@@ -201,21 +201,22 @@ class Raised(unittest.TestCase):
                 signal.raise_signal(signal.SIGINT)
             raise Raised.Stop("stop")
         self.addCleanup(signal.signal, signal.SIGALRM, signal.signal(signal.SIGALRM, stop))
-        replies, delay = [], 0.002
+        told, delay = [], 0.002
         while True:
             behind = self.machine.top
             try:
                 signal.setitimer(signal.ITIMER_REAL, delay)
-                replies += work()
+                # In one step: the handler may raise while replies are looked at.
+                told.append(work())
                 while True:
                     time.sleep(0.001)
             except (Raised.Stop, KeyboardInterrupt) as error:
                 self.assertEqual(isinstance(error, KeyboardInterrupt), interrupted)
                 pending = self.machine.replies()
-                self.assertEqual(len(pending), self.machine.top - len(replies))
-                replies += pending
+                self.assertEqual(len(pending), self.machine.top - sum(map(len, told)))
+                told.append(pending)
                 if pending and self.machine.top - behind < LONG:
-                    return replies, " ".join([*getattr(error, "__notes__", ()), *map(str, error.args)]), len(pending)
+                    return [reply for replies in told for reply in replies], " ".join([*getattr(error, "__notes__", ()), *map(str, error.args)]), len(pending)
             delay = delay * 1.3 if self.machine.top == behind else delay * 0.8
 
     def check(self, work, **words):
@@ -243,12 +244,29 @@ class Raised(unittest.TestCase):
 
     def test_replies_of_several(self):
         """Replies that nobody took are kept over later calls, in their order."""
-        first, _, _ = self.stopped(lambda: self.machine.run([self.add.call("a", 1)] * LONG))
-        behind = self.machine.top
-        self.assertEqual(len(first), behind)
-        told = self.machine.run([self.add.call("a", 1)] * 3)
-        self.assertEqual([reply.timestamp for reply in told], [behind + 1, behind + 2, behind + 3])
-        self.assertEqual(len(self.machine.replies()), 0)
+        def stop(*_):
+            raise Raised.Stop
+        self.addCleanup(signal.signal, signal.SIGALRM, signal.signal(signal.SIGALRM, stop))
+        # Replies are taken in one step: a handler may raise while they are looked at.
+        told, stops, delay = [], 0, 0.002
+        while stops < 3:
+            behind, waiting = self.machine.top, self.machine.counts().waiting
+            try:
+                signal.setitimer(signal.ITIMER_REAL, delay)
+                told.append(self.machine.run([self.add.call("a", 1)] * LONG))
+                while True:
+                    time.sleep(0.001)
+            except Raised.Stop:
+                stops += self.machine.counts().waiting > waiting
+            delay = delay * 1.3 if self.machine.top == behind else delay * 0.8
+            told.append(self.machine.run([self.add.call("a", 1)] * 3))
+        told = [reply for replies in told for reply in replies]
+        top = self.machine.top
+        pending = self.machine.replies()
+        self.assertEqual(list(pending), sorted(pending, key=lambda reply: reply.timestamp))
+        self.assertEqual(sorted(reply.timestamp for reply in [*told, *pending]), list(range(1, top + 1)))
+        self.assertTrue(all(reply.shows == (reply.timestamp,) for reply in [*told, *pending]))
+        self.assertEqual((len(self.machine.replies()), self.machine.counts().waiting), (0, 0))
 
     def test_single_calls(self):
         """Signals that raise while single calls are made: each call's reply is returned, or can be had."""

@@ -4,8 +4,11 @@
 
 /* --- replies that no call has returned --- */
 
+/* Puts a list of replies, the newest first, before those that are pending. */
 static void keep(machine_object *machine, replies_object *replies) {
-    replies->older = machine->pending;
+    replies_object *oldest = replies;
+    while (oldest->older) oldest = oldest->older;
+    oldest->older = machine->pending;
     machine->pending = replies;
 }
 
@@ -82,7 +85,7 @@ PyObject *machine_replies(machine_object *machine, PyObject *nothing) {
     if (!pending) return (PyObject *)new_replies(machine->table, 0);
     if (!pending->older) return (PyObject *)pending;
     replies_object *joined = joined_replies(pending);
-    if (!joined) machine->pending = pending;
+    if (!joined) keep(machine, pending);
     return (PyObject *)joined;
 }
 
