@@ -227,8 +227,8 @@ class LedgerFile(LedgerTables):
 
     def settle(self) -> None:
         """Makes all that the file holds durable. A process that was killed may have left a commit that was never
-        synchronised, and the next one must not answer by it before it is. The log keeps its size: where it is written over, a
-        synchronisation takes a tenth of the time that it takes where it grows."""
+        synchronised, and the next one must not answer by it before it is. The log keeps its size: to synchronise a file that
+        grows takes much longer than one that is written over."""
         busy = self.connection.execute("PRAGMA wal_checkpoint(RESTART)").fetchone()[0]
         if busy:
             raise InUseError(f"{self.path}: a reader keeps its log from being written over")
