@@ -17,22 +17,26 @@ MANY = 4096
 def checkpointed(tables: LedgerTables, library: Optional[Library]) -> State:
     """The state of the checkpoint."""
     state = State(tables.edition, tables.checkpointed, tables.balance(), library)
-    for text in tables.definitions():
-        run(state, [entry for entry in map(entry_of, entries.split(text)) if isinstance(entry, Definition)])
+    for batch in tables.definitions():
+        run(state, [text for text in entries.split(batch) if is_definition(text)])
     return state
 
 
 def recovered(tables: LedgerTables, library: Optional[Library]) -> State:
     """The state that a file holds: that of the checkpoint, with what the entries behind it did."""
     state = checkpointed(tables, library)
-    waiting: List[Entry] = []
-    for _, entry in behind(tables.behind(), tables.checkpointed):
-        waiting.append(entry)
+    waiting: List[str] = []
+    for _, text in behind(tables.behind(), tables.checkpointed):
+        waiting.append(text)
         if len(waiting) == MANY:
             run(state, waiting)
             waiting = []
     run(state, waiting)
     return state
+
+
+def is_definition(text: str) -> bool:
+    return text.startswith("define ")
 
 
 def entry_of(text: str) -> Entry:
@@ -43,14 +47,18 @@ def entry_of(text: str) -> Entry:
     return entry
 
 
-def run(state: State, stored: Sequence[Entry]) -> None:
+def run(state: State, stored: Sequence[str]) -> None:
     """Runs entries that were accepted."""
-    for entry, answer in zip(stored, state.run(stored)):
+    alike = state.alike(stored) if stored else None
+    if alike:
+        state.run_alike(alike)
+        return
+    for text, answer in zip(stored, state.run([*map(entry_of, stored)])):
         if isinstance(answer, Refused):
-            raise DamagedError(f"the file has the entry {str(entry)[:100]!r}, to which the answer is `{answer}`")
+            raise DamagedError(f"the file has the entry {text[:100]!r}, to which the answer is `{answer}`")
 
 
-def behind(batches: Iterable[StoredBatch], sequence: int, missing: Type[Exception] = DamagedError) -> Iterator[Tuple[int, Entry]]:
+def behind(batches: Iterable[StoredBatch], sequence: int, missing: Type[Exception] = DamagedError) -> Iterator[Tuple[int, str]]:
     """The entries of batches but for the transactions up to a sequence number, each with its own number, or with the next
     one's if it is a definition. Raises `missing` where a batch is."""
     last: Optional[StoredBatch] = None
@@ -60,13 +68,14 @@ def behind(batches: Iterable[StoredBatch], sequence: int, missing: Type[Exceptio
             raise missing(f"what is before batch {batch.place} isn't there")
         last, number = batch, batch.first
         for text in entries.split(batch.entries):
-            entry = entry_of(text)
-            if isinstance(entry, Definition):
-                yield number, entry
+            if is_definition(text):
+                yield number, text
             else:
                 if number > sequence:
-                    yield number, entry
+                    yield number, text
                 number += 1
+    if last and number <= sequence:
+        raise missing(f"the checkpoint is at {sequence}, and batch {last.place}, the last one, ends before it")
 
 
 def log_of(tables: LedgerTables, first: int, last: int, library: Optional[Library]) -> str:
@@ -79,19 +88,19 @@ def log_of(tables: LedgerTables, first: int, last: int, library: Optional[Librar
             state, source = State(tables.edition, 0, (), library), behind(batches, 0, TrimmedError)
         rest = run_until(state, source, first)
         lines = [f"log {tables.edition}\n", *(f"{key} {value}\n" for key, value in state.machine.store_at().items())]
-        lines += transactions(state, (entry for number, entry in itertools.takewhile(lambda one: one[0] <= last, rest)))
+        lines += transactions(state, (text for _, text in itertools.takewhile(lambda one: one[0] <= last, rest)))
     return "".join(lines)
 
 
-def run_until(state: State, source: Iterator[Tuple[int, Entry]], first: int) -> Iterator[Tuple[int, Entry]]:
+def run_until(state: State, source: Iterator[Tuple[int, str]], first: int) -> Iterator[Tuple[int, str]]:
     """Runs the entries before a transaction, and returns it and the others."""
-    waiting: List[Entry] = []
-    rest: List[Tuple[int, Entry]] = []
-    for number, entry in source:
-        if number >= first and not isinstance(entry, Definition):
-            rest.append((number, entry))
+    waiting: List[str] = []
+    rest: List[Tuple[int, str]] = []
+    for number, text in source:
+        if number >= first and not is_definition(text):
+            rest.append((number, text))
             break
-        waiting.append(entry)
+        waiting.append(text)
         if len(waiting) == MANY:
             run(state, waiting)
             waiting = []
@@ -99,11 +108,12 @@ def run_until(state: State, source: Iterator[Tuple[int, Entry]], first: int) -> 
     return itertools.chain(rest, source)
 
 
-def transactions(state: State, source: Iterable[Entry]) -> Iterator[str]:
+def transactions(state: State, source: Iterable[str]) -> Iterator[str]:
     """The transactions that entries are, as text; a definition counts from then on."""
-    for entry in source:
+    for text in source:
+        entry = entry_of(text)
         if isinstance(entry, Definition):
-            run(state, [entry])
+            run(state, [text])
         elif isinstance(entry, Transaction):
             yield entry.text
         else:
