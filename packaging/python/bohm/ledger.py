@@ -4,7 +4,7 @@ import os
 import textwrap
 import threading
 from types import TracebackType
-from typing import Any, Dict, Iterable, Iterator, List, Optional, Sequence, Tuple, Type, Union, cast
+from typing import Any, Dict, Iterable, Iterator, List, NoReturn, Optional, Sequence, Tuple, Type, Union, cast
 
 from . import ledger_commit, ledger_file, ledger_recovery, ledger_state
 from .entries import ID, KEY, Refused, text_of
@@ -330,6 +330,9 @@ class Ledger:
 
     def __repr__(self) -> str:
         return f"<ledger {self._path}>"
+
+    def __reduce__(self) -> NoReturn:
+        raise TypeError("a ledger can't be copied: close it, and open its file")
 
     def close(self) -> None:
         """Makes a checkpoint, and closes the file. Does nothing if it is closed."""
