@@ -4,7 +4,7 @@ An entry is text: `define NAME` and a procedure's text, `call NAME ARGUMENT..` w
 transaction from `txn` to `end`. It may carry an id: `define #ID NAME`, `call #ID NAME ARGUMENT..`, `txn #ID`. The last
 newline may be missing. Bytes that aren't ASCII are held as one character each (Latin-1): no accepted entry has any."""
 import re
-from typing import Dict, Iterator, List, NamedTuple, Optional, Sequence, Tuple, Union
+from typing import Iterator, List, NamedTuple, Optional, Sequence, Tuple, Union
 
 from .library import Text
 

@@ -4,7 +4,7 @@ import os
 import textwrap
 import threading
 from types import TracebackType
-from typing import Any, Dict, Iterable, Iterator, List, NoReturn, Optional, Sequence, Tuple, Type, Union, cast
+from typing import Any, Dict, Iterable, List, NoReturn, Optional, Sequence, Tuple, Type, Union, cast
 
 from . import ledger_commit, ledger_file, ledger_recovery, ledger_state
 from .entries import ID, KEY, Refused, text_of
@@ -12,7 +12,7 @@ from .errors import ClosedError, FutureError, NoKeyError, RefusedError, TrimmedE
 from .ledger_file import LedgerError, LedgerFile
 from .ledger_state import Answer, Defined, State
 from .ledger_turns import MOST, Turns
-from .library import Library, Text, octets
+from .library import Library, Text
 from .machine import Machine
 from .replies import Reply
 
