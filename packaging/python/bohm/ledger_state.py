@@ -1,5 +1,6 @@
 """What a ledger holds in memory: the machine that has run its entries, and its procedures."""
 import itertools
+from array import array
 from typing import Collection, Dict, Iterable, Iterator, List, NamedTuple, Optional, Sequence, Set, Tuple, Union
 
 from . import entries
@@ -14,6 +15,8 @@ from .replies import Reply, reply_of
 LONGEST_TEXT = 1 << 25
 # A machine is replaced by one that begins at timestamp 0 where it has passed this one: timestamps have 32 bits.
 RESTART = 1 << 31
+# The most keys whose handles are kept; a commit may bring more.
+MOST_HANDLES = 1 << 18
 
 
 class Defined(NamedTuple):
@@ -57,6 +60,8 @@ class State:
     def __init__(self, edition: int, sequence: int, store: Iterable[Tuple[str, int]], library: Optional[Library]) -> None:
         self.edition, self.library = edition, library
         self.procedures: Dict[str, Prepared] = {}
+        # Handles of keys on the machine.
+        self.handles: Dict[str, int] = {}
         # The keys that may have changed since the last checkpoint.
         self.changed: Set[str] = set()
         # The sequence number of the last transaction, and of the machine's timestamp 0.
@@ -66,6 +71,7 @@ class State:
     def restart(self, store: Iterable[Tuple[str, int]]) -> None:
         """Replaces the machine by one on the present store."""
         machine, self.base = opened(self.top, store, self.library)
+        self.handles.clear()
         self.procedures = {name: Prepared(form, machine.prepare(form.text)) for name, (form, _) in self.procedures.items()}
         self.machine = machine
 
@@ -109,10 +115,31 @@ class State:
 
     def run_alike(self, alike: Alike) -> Sequence[Reply]:
         """Runs calls of one procedure, and returns their replies. After an exception any part may have run."""
+        columns = [*zip(*alike.rows)][1:]
+        if len(self.handles) < MOST_HANDLES:
+            return self.numbered(self.run_columns(alike.prepared, columns))
         replies: List[Reply] = []
         for piece in pieces([alike.prepared.form.instance(row[1:]) for row in alike.rows]):
             replies += self.apply(piece)
         return replies
+
+    def run_columns(self, prepared: Prepared, columns: Sequence[Tuple[str, ...]]) -> Sequence[Reply]:
+        """Runs calls whose arguments are in columns, keys by their handles."""
+        form, procedure = prepared
+        keys = [array("I", map(self.handle_of, column)) for column in columns[:len(form.keys)]]
+        values = [array("q", map(int, column)) for column in columns[len(form.keys):]]
+        replies = self.machine.run_many(procedure, *keys, *values)
+        self.top += len(replies)
+        for place in form.writes:
+            self.changed.update(columns[place] if place < form.count else (form.fixed[place - form.count],))
+        return replies
+
+    def handle_of(self, key: str) -> int:
+        """A key's handle on the machine, which is looked up once."""
+        handle = self.handles.get(key)
+        if handle is None:
+            handle = self.handles[key] = self.machine.key(key).handle
+        return handle
 
     def instance(self, call: Call) -> Union[str, Refused]:
         """The transaction that a call stands for."""
@@ -163,6 +190,10 @@ class State:
         self.top += len(replies)
         for text in texts:
             self.changed.update(entries.writes_of(text))
+        return self.numbered(replies)
+
+    def numbered(self, replies: Sequence[Reply]) -> Sequence[Reply]:
+        """Replies with the ledger's numbers."""
         return [reply._replace(timestamp=self.base + reply.timestamp) for reply in replies] if self.base else replies
 
     def fault(self, transaction: str) -> Optional[Refused]:
