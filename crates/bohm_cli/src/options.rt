@@ -19,17 +19,19 @@ store: bohm [OPTIONS] < LOG. Workers, partitions and batches change the speed,
 never the answer.";
 
 const CC: &str = "\
-Workers that parse the log ahead, window by window, 1 to 16
-[default: 1]. Three pay off on logs of 5 MB and more";
+Workers that parse the log ahead, window by window, and plan
+shared windows, 1 to 16 [default: 1]. Three pay off on logs
+of 5 MB and more";
 
 const EXEC: &str = "\
-Executing workers, 1 to 16 [default: 1]. Several share
-bodies of 32 statements and more; shorter ones run on one,
-unless --batch is below 4096";
+Executing workers, 1 to 16 [default: 1]. Several share a
+window if its bodies have 32 statements on average, or if
+--batch is below 4096; other windows run on one";
 
 const PARTS: &str = "\
-The library's partitions of the keys, 1 to 64 [default: 1].
-It has no effect here: bohm distributes windows of the log";
+Partitions of the keys, 1 to 64 [default: 1]. In a shared
+window each is planned by one of the --cc workers, so no
+more of them plan than there are partitions";
 
 const BATCH: &str = "\
 Transactions in a batch, 1 to 4096 [default: 4096]. Small

@@ -4,6 +4,7 @@ pub mod Slots
 pub mod Writers
 pub mod Plans
 pub mod Shares
+pub mod Knowing
 pub mod Planners
 pub mod Numbered
 pub mod Cuttings

@@ -2,7 +2,9 @@
 use Rattle.std.specs.Prelude.{◌≡◌, ℕ, ◌<◌, ◌&&◌, Bool, true, List, [], ◌∷◌, All}
 use Rattle.std.specs.Str.{bytes_eq}
 use Rattle.bohm_place.specs.declared.placeholder.Placeholder.{Placeholder}
+use Rattle.bohm_place.specs.declared.worker.Known.{Known}
 use Rattle.bohm_place.specs.declared.worker.WorkerKeys.{WorkerKeys}
+use Rattle.bohm_place.specs.Knowing.{AreKnown}
 use Rattle.bohm_place.specs.declared.by_key.KeyPlanner.{KeyPlanner}
 use Rattle.bohm_place.specs.declared.by_number.NumberPlanner.{NumberPlanner}
 use Rattle.bohm_place.specs.Chains.{Keyed, placeholders_in, chain_in}
@@ -36,6 +38,10 @@ IsPlaced part_of p key next = ArePlacedFor (part_of p.keys.partition.now) (λ k.
 -- the placeholder that the worker finds for the key with this number in this array
 abbrev pub found_of_number : {P : Type 0} → (P → List ℕ → ℕ) → NumberPlanner P → List Placeholder → ℕ → Placeholder
 found_of_number part_of p = found_at (mine part_of p.keys) p.batch.first p.declared.names
+
+-- what the worker knows of the parts of keys is right
+abbrev pub Knows : {P : Type 0} → (P → List ℕ → ℕ) → NumberPlanner P → List Known → Type 0
+Knows part_of p = AreKnown (mine part_of p.keys) p.keys.worker.count p.declared.names
 
 -- for the worker's keys, the second array has the placeholders of ts, which writes the keys with these numbers
 abbrev pub ArePlacedByNumber : {P : Type 0} → (P → List ℕ → ℕ) → NumberPlanner P → ℕ → List ℕ → List Placeholder → List Placeholder → Type 0

@@ -115,8 +115,8 @@ fn gather<P: Partition>(
 ///
 /// The arrays are those that planning the previous batch returned, or new ones; their number may
 /// change from batch to batch. An error drops them. The time of a worker grows with the number of
-/// accesses, with a call of the partition for each access if there are several workers, and with
-/// the number of the log's keys that are new to its array. Before that, one thread takes time that
+/// accesses, with a call of the partition for each key that they name if there are several workers,
+/// and with the number of the log's keys. Before that, one thread takes time that
 /// grows with the number of statements and terms, and after it, to join the results, time that
 /// grows with the number of accesses times the number of workers.
 pub fn plan_by_number<P: Partition, R: Threads + Sync>(

@@ -1,1 +1,2 @@
 mod AheadLaws
+mod Samples

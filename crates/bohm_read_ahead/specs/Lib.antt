@@ -1,3 +1,4 @@
 pub mod Preparing
+pub mod Sharing
 pub mod Parsing
 pub mod Reading

@@ -1,17 +1,23 @@
 //! A chunk of a log that is checked and planned ahead of its execution.
 
-ghost use Rattle.std.specs.Prelude.{◌≡◌, IfOk};
+ghost use Rattle.std.specs.Prelude.{◌≡◌, ◌+◌, ◌<◌, ◌≤◌, All, length, IfOk};
+ghost use Rattle.std.specs.List.{sum};
+ghost use Rattle.bohm_types.specs.Limits.{most_txns};
 ghost use Rattle.bohm_txn.specs.Chunked.{IsLogCheckedTo};
+ghost use Rattle.bohm_txn.specs.Faulty.{IsWellFormedTxn};
+ghost use Rattle.bohm_place.specs.Cuttings.{ArePlans, IsEven};
 ghost use Rattle.bohm_read_ahead.specs.Preparing.{count_with, IsPrepared};
+ghost use Rattle.bohm_read_ahead.specs.Sharing.{are_long, is_planned, is_shared, IsSharedAs};
 
 use bohm_hints::IndexHints;
 use bohm_log::{HashSeed, Log, LogPart};
-use bohm_place::{CutLog, Cuts, Plan, plan_batches};
+use bohm_place::{ByteSum, CutLog, Cuts, Plan, plan_batches};
 use bohm_settings::{LARGEST_BATCH, Settings};
 use bohm_text::Chunk;
 use bohm_txn::{CheckFault, check_more};
 use bohm_types::{MOST_TXNS, NoMemory};
 use std::alloc::Global;
+use std::thread::Threads;
 
 /// The number of statements from which on several workers run a body faster than one worker.
 /// Several workers also plan, claim and install, which takes as long as some thirty statements.
@@ -53,28 +59,63 @@ pub fn counted(count: usize, more: usize) -> usize
 }
 
 /// Whether bodies are long on average, judged by a sample of them.
-fn are_long(part: &LogPart<'_>) -> bool {
+fn are_long(part: &LogPart<'_>) -> bool
+    requires few { length part.now ≤ most_txns }
+    requires formed { All IsWellFormedTxn part.now }
+    ensures { result ≡ are_long part.now }
+{
     let step = part.len() / SAMPLED + 1;
-    let (mut bodies, mut statements) = (0usize, 0usize);
-    for place in 0..SAMPLED {
-        let index = place.saturating_mul(step);
-        if index < part.len() {
-            bodies = bodies.saturating_add(1);
-            statements = statements.saturating_add(part.txn(index).body_len());
-        }
+    let (mut index, mut bodies, mut statements) = (0, 0, 0);
+    'sample: while index < part.len() {
+        statements += part.txn(index).body_len();
+        bodies += 1;
+        index += step;
     }
-    statements >= bodies.saturating_mul(SHARED_BODY)
+    statements >= bodies * SHARED_BODY
 }
 
 /// Whether several workers execute these transactions: there are several, and bodies are long or
 /// smaller batches were requested.
-fn are_shared(part: &LogPart<'_>, settings: Settings) -> bool {
-    settings.exec().count() > 1 && (settings.batch() < LARGEST_BATCH || are_long(part))
+fn is_shared(part: &LogPart<'_>, settings: Settings) -> bool
+    requires few { length part.now ≤ most_txns }
+    requires formed { All IsWellFormedTxn part.now }
+    ensures { result ≡ is_shared settings part.now }
+{
+    settings.exec().count() > 1
+        && part.len() > 0
+        && (settings.batch() < LARGEST_BATCH || are_long(part))
+}
+
+/// The batches of these transactions, the first of which has the timestamp `first`, and their
+/// plans, made by the planning workers that the settings give.
+fn plan<T: Threads + Sync>(
+    rt: &T,
+    alloc: Global,
+    part: &LogPart<'_>,
+    first: u32,
+    settings: Settings,
+) -> Result<(Cuts, Vec<Plan>), NoMemory>
+    requires position { 0 < first }
+    requires timestamps { first + length part.now ≤ most_txns + 1 }
+    requires formed { All IsWellFormedTxn part.now }
+    ensures total { IfOk result (λ r. sum r.0 ≡ length part.now) }
+    ensures even { IfOk result (λ r. IsEven settings.batch r.0) }
+    ensures plans { IfOk result (λ r. ArePlans
+        (record { first = first; log = part.entry.now; sizes = r.0 }) r.1.items) }
+{
+    let Some(partition) = ByteSum::new(settings.parts()) else {
+        unreachable!()
+    };
+    let cuts = Cuts::even(alloc, part.len() as u32, settings.batch())?;
+    let log = CutLog::new(first, part, &cuts);
+    let plans = plan_batches(rt, alloc, log, settings.cc().count(), &partition)?;
+    Ok((cuts, plans))
 }
 
 /// Determines what is known about transactions with this first fault that follow `count` others,
 /// and plans them if several workers are to execute them.
-fn prepare(
+fn prepare<T: Threads + Sync>(
+    rt: &T,
     alloc: Global,
     part: &LogPart<'_>,
     fault: Option<CheckFault>,
@@ -82,7 +123,8 @@ fn prepare(
     settings: Settings,
 ) -> Result<Prepared, NoMemory>
     requires { IsLogCheckedTo part.now fault }
-    ensures { IfOk result (IsPrepared count part.entry.now) }
+    ensures prepared { IfOk result (IsPrepared count part.entry.now) }
+    ensures shared { IfOk result (IsSharedAs settings part.entry.now) }
 {
     if let Some(fault) = check_more(count, part, fault) {
         return Ok(Prepared::Faulty(fault));
@@ -90,22 +132,22 @@ fn prepare(
     if counted(count, part.len()) > MOST_TXNS {
         return Ok(Prepared::TooMany);
     }
-    if part.len() == 0 || !are_shared(part, settings) {
+    if !is_shared(part, settings) {
         return Ok(Prepared::Ready);
     }
-    let cuts = Cuts::even(alloc, part.len() as u32, settings.batch())?;
-    let plans = plan_batches(alloc, CutLog::new(count as u32 + 1, part, &cuts))?;
+    let (cuts, plans) = plan(rt, alloc, part, count as u32 + 1, settings)?;
     Ok(Prepared::Planned { cuts, plans })
 }
 
 impl CheckedChunk {
     /// A chunk with this first fault that follows `count` transactions. If several workers are to
-    /// execute it, it is planned in batches of the size that the settings give. The hints are those
-    /// of its keys.
+    /// execute it, it is planned in batches of the size, and by the workers, that the settings give.
+    /// The hints are those of its keys.
     ///
     /// The time and the memory are constant; if the chunk is planned, they grow with the number of
     /// the log's keys, including those that it kept, and of its transactions.
-    pub(crate) fn new(
+    pub(crate) fn new<T: Threads + Sync>(
+        rt: &T,
         alloc: Global,
         chunk: Chunk,
         fault: Option<CheckFault>,
@@ -117,8 +159,9 @@ impl CheckedChunk {
         ensures log { IfOk result (λ c. c.log ≡ chunk.log) }
         ensures count { IfOk result (λ c. c.count ≡ count) }
         ensures prepared { IfOk result (λ c. IsPrepared count chunk.log c.prepared) }
+        ensures shared { IfOk result (λ c. IsSharedAs settings chunk.log c.prepared) }
     {
-        let prepared = prepare(alloc, &chunk.log.part(), fault, count, settings)?;
+        let prepared = prepare(rt, alloc, &chunk.log.part(), fault, count, settings)?;
         Ok(CheckedChunk {
             log: chunk.log,
             count,
@@ -128,7 +171,9 @@ impl CheckedChunk {
     }
 
     /// Whether several workers are to execute it by its plans. The time is constant.
-    pub fn is_planned(&self) -> bool {
+    pub fn is_planned(&self) -> bool
+        ensures { result ≡ is_planned self.now.prepared }
+    {
         matches!(self.prepared, Prepared::Planned { .. })
     }
 }

@@ -4,6 +4,7 @@
 ghost use Rattle.std.specs.Prelude.{◌≡◌, ◌<◌, length, IfOk, IfErr, IfSome, OnOk};
 ghost use Rattle.bohm_txn.specs.Chunked.{IsLogCheckedTo};
 ghost use Rattle.bohm_read_ahead.specs.Preparing.{IsCheckedBehind};
+ghost use Rattle.bohm_read_ahead.specs.Sharing.{IsSharedAs};
 ghost use Rattle.bohm_read_ahead.specs.Reading.{HasMore, IsGoing, ReadsAhead, ReadsChunk, RefusesChunk};
 
 use crate::checked_chunk::{CheckedChunk, counted};
@@ -39,7 +40,7 @@ pub struct LogReader {
     seed: DrawnSeed,
     /// The minimum number of bytes of a window, except for the first and the last one.
     size: usize,
-    settings: Settings,
+    pub settings: Settings,
     /// The names of the starting store's keys, which all logs share with the history.
     names: SharedNames<HashSeed>,
     spare: Vec<Spare>,
@@ -91,13 +92,14 @@ impl LogReader {
         size: usize,
         settings: Settings,
     ) -> Result<LogReader, NoMemory>
-        ensures { IfOk result (λ r. r.state ≡ state) }
+        ensures state { IfOk result (λ r. r.state ≡ state) }
+        ensures settings { IfOk result (λ r. r.settings ≡ settings) }
     {
         // A log of one window needs no threads.
         let threads = if state.source.ended {
-            0
+            None
         } else {
-            settings.cc().count()
+            Some(settings.cc())
         };
         let spare = Vec::new(alloc);
         Ok(LogReader {
@@ -130,6 +132,7 @@ impl LogReader {
         ensures some { OnOk result (HasMore self.old.state → 0 < length self.new.state.ahead.items) }
         ensures err { IfErr result
             (RefusesChunk (R.remaining reader.old) (R.remaining reader.new) self.old.state) }
+        ensures settings { self.new.settings ≡ self.old.settings }
     {
         let threads = self.settings.cc().count();
         let most = most_ahead(self.settings);
@@ -152,13 +155,15 @@ impl LogReader {
     }
 
     /// Counts a chunk with this first fault, which follows the chunks that were taken. If several
-    /// workers are to execute it, it is planned in batches of the size that the settings give. The
-    /// hints are those of its keys. It fails with `NoMemory` if the plans fail to allocate.
+    /// workers are to execute it, it is planned in batches of the size that the settings give, by as
+    /// many workers: each plans the keys of its parts. The hints are those of its keys. It fails with
+    /// `NoMemory` if the plans fail to allocate.
     ///
     /// The time and the memory are constant; if the chunk is planned, they grow with the number of
     /// its keys and transactions.
-    pub fn prepare(
+    pub fn prepare<T: Threads + Sync>(
         &mut self,
+        rt: &T,
         alloc: Global,
         chunk: Chunk,
         fault: Option<CheckFault>,
@@ -168,10 +173,12 @@ impl LogReader {
         ensures same { self.new.state ≡ record self.old.state { count = self.new.state.count } }
         ensures log { IfOk result (λ c. c.log ≡ chunk.log) }
         ensures checked { IfOk result (IsCheckedBehind self.old.state.count self.new.state.count) }
+        ensures shared { IfOk result (λ c. IsSharedAs self.old.settings c.log c.prepared) }
+        ensures settings { self.new.settings ≡ self.old.settings }
     {
         let count = self.state.count;
         self.state.count = counted(count, chunk.log.len());
-        CheckedChunk::new(alloc, chunk, fault, count, hints, self.settings)
+        CheckedChunk::new(rt, alloc, chunk, fault, count, hints, self.settings)
     }
 
     /// Returns the chunk of the next window, checked and planned. Windows are read ahead both
@@ -181,7 +188,7 @@ impl LogReader {
     ///
     /// The time and the memory grow with those of `read_ahead` and `prepare`, and the time with the
     /// length of the chunk if it wasn't checked ahead.
-    pub fn next_chunk<R: Read, T: Wait>(
+    pub fn next_chunk<R: Read, T: Threads + Wait + Sync>(
         &mut self,
         rt: &T,
         alloc: Global,
@@ -194,6 +201,8 @@ impl LogReader {
             self.new.state) }
         ensures err { IfErr result
             (RefusesChunk (R.remaining reader.old) (R.remaining reader.new) self.old.state) }
+        ensures shared { IfOk result (λ c. IsSharedAs self.old.settings c.log c.prepared) }
+        ensures settings { self.new.settings ≡ self.old.settings }
     {
         self.read_ahead(rt, alloc, reader)?;
         let Some(parsing) = self.state.ahead.pop_front() else {
@@ -207,13 +216,14 @@ impl LogReader {
         let chunk = take_parsed(reader, self.state.edition, &mut self.state.source, parsed)?;
         self.read_ahead(rt, alloc, reader)?;
         let fault = first_fault(&chunk, fault);
-        Ok(self.prepare(alloc, chunk, fault, hints)?)
+        Ok(self.prepare(rt, alloc, chunk, fault, hints)?)
     }
 
     /// Keeps the log and the index hints of a finished chunk for a later window. It fails with
     /// `NoMemory` if there is no room for them. The time is constant.
     pub fn keep(&mut self, done: CheckedChunk) -> Result<(), NoMemory>
-        ensures { self.new.state ≡ self.old.state }
+        ensures state { self.new.state ≡ self.old.state }
+        ensures settings { self.new.settings ≡ self.old.settings }
     {
         let CheckedChunk { log, hints, .. } = done;
         self.spare.push(Spare { log, hints })?;

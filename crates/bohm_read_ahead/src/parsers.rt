@@ -7,7 +7,7 @@ use crate::checked_window::CheckedWindow;
 use crate::parse_task::ParseTask;
 use crate::promise::ParseOf;
 use bohm_handoff::Giver;
-use bohm_settings::Settings;
+use bohm_settings::{Planners, Settings};
 use bohm_types::NoMemory;
 use crossbeam_channel::{Receiver, Sender, bounded};
 use std::alloc::Global;
@@ -78,13 +78,17 @@ fn work<R: Wait>(rt: &R, jobs: &Receiver<ParseJob, Global>) {
 }
 
 impl Parsers {
-    /// Starts `count` threads, or as many as can be started, with a queue for `ahead` windows.
+    /// Starts this many threads, or as many as can be started, with a queue for `ahead` windows.
     pub(crate) fn start<R: Threads + Wait + Copy + Send + 'static>(
         rt: &R,
         alloc: Global,
-        count: u32,
+        count: Option<Planners>,
         ahead: usize,
     ) -> Result<Parsers, NoMemory> {
+        let count = match count {
+            Some(planners) => planners.count(),
+            None => 0,
+        };
         let (jobs, queue) = bounded(alloc, ahead)?;
         let mut threads = Vec::with_capacity(alloc, count as usize)?;
         for _ in 0..count {

@@ -115,15 +115,16 @@ fn answer(alloc: Global, state: RunState, ts: u32) -> Result<Vec<u8>, NoMemory>
 /// The caller's thread runs the transactions in log order, without plans and batches, and reads the
 /// next windows in between. Several workers execute a window whose bodies have at least 32
 /// statements on average, judged by a sample, or every window if the batches are smaller than the
-/// largest. Then the next window is planned meanwhile, on one thread, so the partitions of the keys
-/// aren't used. A log of one window of short bodies is read and run on the caller's thread. While
+/// largest. Then the next window is planned meanwhile: of the partitions of the keys by the sum of
+/// their bytes, planning worker w of `cc` has those whose number is w modulo `cc`. A log of one window of short bodies is read and run on the caller's thread. While
 /// the next window isn't parsed, the caller's thread parses another one if several threads parse,
 /// and then blocks. If no thread can be started, it parses all windows.
 ///
 /// The time grows with the text and its answer, with the terms of the transactions and the keys
 /// that they declare, and with the number of the store's keys k as k log k. Parsing is spread over
-/// `cc` threads, and the evaluation of long bodies, with their replies, over `exec` threads; all
-/// else is done by one thread, or by two if several workers execute. The memory grows with the keys
+/// `cc` threads, planning over as many or over the partitions if these are fewer, and the
+/// evaluation of long bodies, with their replies, over `exec` threads; all else is done by one
+/// thread, or by two if several workers execute. The memory grows with the keys
 /// of the log, with the text of the answer, and with 2 `cc` + 3 windows. A window has 32 KiB, 128
 /// KiB for several executing workers, or is as long as the head and the store, or as a transaction,
 /// if these are longer.

@@ -118,7 +118,7 @@ fn run_to_end<R: Read, T: Threads + Wait + Sync>(
         (R.remaining reader.new) log_reader.old.state.source) }
 {
     let fault = check_chunk(&first.log.part());
-    let mut chunk = log_reader.prepare(alloc, first, fault, IndexHints::new(alloc))?;
+    let mut chunk = log_reader.prepare(rt, alloc, first, fault, IndexHints::new(alloc))?;
     log_reader.read_ahead(rt, alloc, reader)?;
     'windows: while log_reader.state.is_going() {
         chunk = run_and_read(rt, alloc, log_reader, reader, state, chunk)?;

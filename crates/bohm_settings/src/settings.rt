@@ -101,7 +101,7 @@ impl Settings {
         })
     }
 
-    /// The number of planning workers.
+    /// The number of planning workers: in `run_text` they also parse and check windows ahead.
     pub fn cc(&self) -> Planners
         ensures value { result ≡ self.now.cc }
         ensures in_range { IsBetween 1 most_workers result }

@@ -19,17 +19,17 @@ pub returns-then-is_planned-clause-ok : goal.returns-then-is_planned-clause-ok
 returns-then-is_planned-clause-ok g c =
     let read = g.R.Read.remaining c.args.reader.now in
     let left = g.R.Read.remaining c.run_beside_reading-ran.new.reader in
-    subst (λ (r : ReadingState). ReadsChunk read left c.args.log_reader.now.state r c.in_ok-next.next) (sym c.keep.ensures)
+    subst (λ (r : ReadingState). ReadsChunk read left c.args.log_reader.now.state r c.in_ok-next.next) (sym c.keep.ensures.state)
     (IfOk-at_ok _ c.in_ok-next.was c.run_beside_reading-ran.ensures.ok)
 
 pub returns-clause-ok : goal.returns-clause-ok
 returns-clause-ok g c =
     let read = g.R.Read.remaining c.args.reader.now in
     let left = g.R.Read.remaining c.next_chunk.new.reader in
-    subst (λ (r : ReadingState). IfOk c.next_chunk.result (ReadsChunk read left r c.next_chunk.new.self.state)) c.keep-2.ensures c.next_chunk.ensures.ok
+    subst (λ (r : ReadingState). IfOk c.next_chunk.result (ReadsChunk read left r c.next_chunk.new.self.state)) c.keep-2.ensures.state c.next_chunk.ensures.ok
 
 pub returns-clause-err : goal.returns-clause-err
 returns-clause-err g c =
     let read = g.R.Read.remaining c.args.reader.now in
     let left = g.R.Read.remaining c.next_chunk.new.reader in
-    subst (λ (r : ReadingState). IfErr c.next_chunk.result (RefusesChunk read left r)) c.keep-2.ensures c.next_chunk.ensures.err
+    subst (λ (r : ReadingState). IfErr c.next_chunk.result (RefusesChunk read left r)) c.keep-2.ensures.state c.next_chunk.ensures.err

@@ -43,14 +43,14 @@ returns-in_err-log_reader-clause-before g c =
 
 pub run_to_end-ran-requires-clause-ready : goal.run_to_end-ran-requires-clause-ready
 run_to_end-ran-requires-clause-ready g c κs within =
-    let source = ap (λ (r : ReadingState). r.source) c.in_ok-log_reader.ensures ∙ c.new-reading.ensures.source in
+    let source = ap (λ (r : ReadingState). r.source) c.in_ok-log_reader.ensures.state ∙ c.new-reading.ensures.source in
     subst IsReady (sym source) (ready _ (document_of_first c.in_ok-first.first) c.in_ok-first.source c.in_ok-first.ensures.ok.is)
 
 pub returns-in_err-ran-clause-err : goal.returns-in_err-ran-clause-err
 returns-in_err-ran-clause-err g c =
     let p = err_from_is_err_and c.from_residual-in_err-ran.result c.from_residual-in_err-ran.ensures.1 in
-    let edition = ap (λ (r : ReadingState). r.edition) c.in_ok-log_reader.ensures ∙ c.new-reading.ensures.edition in
-    let source = ap (λ (r : ReadingState). r.source) c.in_ok-log_reader.ensures ∙ c.new-reading.ensures.source in
+    let edition = ap (λ (r : ReadingState). r.edition) c.in_ok-log_reader.ensures.state ∙ c.new-reading.ensures.edition in
+    let source = ap (λ (r : ReadingState). r.source) c.in_ok-log_reader.ensures.state ∙ c.new-reading.ensures.source in
     let refused = rw (edition, source) at c.in_err-ran.ensures.err in
     rw (p.1, p.2)
     (λ given. log_refused _ _ _ c.in_ok-first.first c.in_ok-first.source c.in_ok-first.ensures.ok given c.in_err-ran.field-0.0 refused)
@@ -62,16 +62,16 @@ returns-in_err-ran-clause-before g c =
 
 pub returns-in-None-clause-ok : goal.returns-in-None-clause-ok
 returns-in-None-clause-ok g c =
-    let edition = ap (λ (r : ReadingState). r.edition) c.in_ok-log_reader.ensures ∙ c.new-reading.ensures.edition in
-    let source = ap (λ (r : ReadingState). r.source) c.in_ok-log_reader.ensures ∙ c.new-reading.ensures.source in
+    let edition = ap (λ (r : ReadingState). r.edition) c.in_ok-log_reader.ensures.state ∙ c.new-reading.ensures.edition in
+    let source = ap (λ (r : ReadingState). r.source) c.in_ok-log_reader.ensures.state ∙ c.new-reading.ensures.source in
     let ran = rw (edition, source) at c.in_ok-ran.ensures.ok in
     log_run _ _ _ c.in_ok-first.first c.in_ok-first.source c.in_ok-first.ensures.ok c.args.settings.keep c.in_ok-state.state
     c.run_to_end-ran.new.state c.in_ok-state.ensures ran (c.check_end.ensures.none c.in-None.is) (c.check_end.ensures.kept c.in-None.is)
 
 pub returns-in-Some-clause-err : goal.returns-in-Some-clause-err
 returns-in-Some-clause-err g c =
-    let edition = ap (λ (r : ReadingState). r.edition) c.in_ok-log_reader.ensures ∙ c.new-reading.ensures.edition in
-    let source = ap (λ (r : ReadingState). r.source) c.in_ok-log_reader.ensures ∙ c.new-reading.ensures.source in
+    let edition = ap (λ (r : ReadingState). r.edition) c.in_ok-log_reader.ensures.state ∙ c.new-reading.ensures.edition in
+    let source = ap (λ (r : ReadingState). r.source) c.in_ok-log_reader.ensures.state ∙ c.new-reading.ensures.source in
     let ran = rw (edition, source) at c.in_ok-ran.ensures.ok in
     λ given. log_faulty _ _ _ c.in_ok-first.first c.in_ok-first.source c.in_ok-first.ensures.ok c.args.settings.keep c.in_ok-state.state
     c.run_to_end-ran.new.state c.in_ok-state.ensures ran given c.in-Some.fault c.in-Some.ensures.some

@@ -61,9 +61,10 @@ loop-i-preserved g c =
     let read = found_names own first names (take i txns) c.loop-i.newest rs c.sets.ensures.reads stands in
     let written = found_names own first names (take i txns) c.loop-i.newest ws c.sets.ensures.writes stands in
     let more : c.find_and_place_writes.new.found.items ≡ (c.loop-i.found.items ++ map value (get_or txns i x).reads) ++ map value (get_or txns i x).writes =
-    rw (c.in_ok-find_and_place_writes.ensures.found, c.in_ok-find_reads.ensures, read, written, reads, writes, at) refl in
+    rw (c.in_ok-find_and_place_writes.ensures.found, c.in_ok-find_reads.ensures.found, read, written, reads, writes, at) refl in
     record {
       stands = stands_on own first names txns i x ws c.loop-i.newest c.find_and_place_writes.new.newest inside at writes stands placed;
       found = found_on own (ahead_of first) txns i x inside c.loop-i.found.items c.find_and_place_writes.new.found.items c.loop-i.invariant.found more;
+      known = c.find_and_place_writes.ensures.known;
       long = placed.long ∙ c.loop-i.invariant.long;
     }

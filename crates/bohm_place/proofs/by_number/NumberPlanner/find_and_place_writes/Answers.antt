@@ -28,5 +28,6 @@ loop-place-preserved g c =
     record {
       found = found_write find c.args.found.now.items c.loop-place.found.items c.push.new.self.items c.find_and_place.result numbers i number inside at
           c.loop-place.invariant.found c.in_ok-push.ensures.items found;
+      known = c.find_and_place.ensures.known;
       placed = placed_more own first c.args.ts names numbers i number old now new c.requires.covered c.requires.named c.requires.timestamp inside at before is;
     }
