@@ -197,9 +197,9 @@ class Raised(unittest.TestCase):
         """Runs work until a signal's exception ends it in the middle. Returns the replies of all that ran, the exception's
         notes, and how many replies were pending."""
         def stop(*_):
-            if interrupted:
-                signal.raise_signal(signal.SIGINT)
-            raise Raised.Stop("stop")
+            if not interrupted:
+                raise Raised.Stop("stop")
+            signal.raise_signal(signal.SIGINT)
         self.addCleanup(signal.signal, signal.SIGALRM, signal.signal(signal.SIGALRM, stop))
         told, delay = [], 0.002
         while True:
