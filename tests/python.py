@@ -276,8 +276,8 @@ class Raised(unittest.TestCase):
         self.addCleanup(signal.setitimer, signal.ITIMER_REAL, 0)
         told = lost = 0
         for _ in range(40):
-            signal.setitimer(signal.ITIMER_REAL, 0.0007)
             try:
+                signal.setitimer(signal.ITIMER_REAL, 0.0007)
                 while True:
                     self.add(self.key, 1)
                     told += 1
