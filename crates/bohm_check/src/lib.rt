@@ -32,8 +32,10 @@ mod walk;
 pub use finding::faults;
 pub use loose_faults::{LooseText, put_double, put_loose_faults};
 pub use page::Page;
-pub use procedure_report::{ProcedureSummary, StatementLine, check_loose_procedure};
-pub use procedure_report::{check_procedure, is_procedure, put_notes, statement_at};
+pub use procedure_report::{
+    ProcedureSummary, StatementLine, check_loose_procedure, check_procedure, is_procedure,
+    put_notes, statement_at,
+};
 pub use report::put_faults;
 pub use summary::Summary;
 pub use text_faults::put_text_fault;

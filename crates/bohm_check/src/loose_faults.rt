@@ -89,7 +89,10 @@ fn put_misspelled(
     let state = halt.state;
     let (offset, mistake) = if is_cut_short(bad.line.bytes, halt) {
         let last = said.offset_of(letters.saturating_sub(1));
-        (last.saturating_add(1), Mistake::at(bad.place, bad.line.bytes, halt))
+        (
+            last.saturating_add(1),
+            Mistake::at(bad.place, bad.line.bytes, halt),
+        )
     } else {
         let offset = said.offset_of(letters);
         let halt = Halt { offset, state };

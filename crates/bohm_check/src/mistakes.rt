@@ -91,7 +91,10 @@ impl Mistake {
         if begins_with_dash(behind) {
             return Some(Mistake::ForeignMinus);
         }
-        if word.starts_with(b"!=") || word.starts_with(b"<>") || word == b">".as_slice() && before.ends_with(b"<") {
+        if word.starts_with(b"!=")
+            || word.starts_with(b"<>")
+            || word == b">".as_slice() && before.ends_with(b"<")
+        {
             return Some(Mistake::Unequal);
         }
         if before.ends_with(b" when has ") || before.ends_with(b" when no ") {
@@ -156,11 +159,9 @@ impl Mistake {
     /// The mistake's message.
     pub fn words(self) -> &'static str {
         match self {
-            Mistake::ByteOrderMark =>
-                "a byte order mark precedes the text: remove it",
+            Mistake::ByteOrderMark => "a byte order mark precedes the text: remove it",
             Mistake::EmptyLine => "the line is empty",
-            Mistake::Comment =>
-                "a comment begins here; `tidy` takes comments out",
+            Mistake::Comment => "a comment begins here; `tidy` takes comments out",
             Mistake::Tab => "tab: separate words by one space",
             Mistake::CarriageReturn => "carriage return: a line ends with a newline alone",
             Mistake::BlankAtBegin => "the line begins with a space",
@@ -179,9 +180,7 @@ impl Mistake {
             Mistake::IfStatement => {
                 "there is no `if`: `need` aborts the transaction, `set .. when` writes on a condition"
             }
-            Mistake::TestInGuard => {
-                "`when` takes a comparison: only `need` has `has` and `no`"
-            }
+            Mistake::TestInGuard => { "`when` takes a comparison: only `need` has `has` and `no`" }
             Mistake::Parenthesis => "a sum has no calls and no parentheses",
             Mistake::Product => "a sum adds and subtracts, and has no products and quotients",
             Mistake::MinusApart => "the minus of a first number or name has no space after it",

@@ -130,9 +130,10 @@ impl<'a> Page<'a> {
     pub fn offset(self, line: u64, offset: usize) -> usize {
         match self.loose {
             None => offset,
-            Some(_) => Said::on(self.number(line), self.shown(line)).offset_behind(
-                letters_before(self.line(line), offset),
-            ),
+            Some(_) => Said::on(self.number(line), self.shown(line)).offset_behind(letters_before(
+                self.line(line),
+                offset,
+            )),
         }
     }
 

@@ -15,7 +15,10 @@ pub struct Parameters {
 
 /// The parameter that a line names, if it is the line of one.
 fn named_on(line: &[u8]) -> Option<Key> {
-    Key::new(line.strip_prefix(b"key ".as_slice()).or(line.strip_prefix(b"value ".as_slice()))?)
+    Key::new(
+        line.strip_prefix(b"key ".as_slice())
+            .or(line.strip_prefix(b"value ".as_slice()))?,
+    )
 }
 
 /// The keys of a set's line.

@@ -70,12 +70,7 @@ impl Own {
     }
 
     /// The messages about the document's faults.
-    fn put_faults(
-        &self,
-        alloc: Global,
-        out: &mut Vec<u8>,
-        page: Page<'_>,
-    ) -> Result<(), NoMemory> {
+    fn put_faults(&self, alloc: Global, out: &mut Vec<u8>, page: Page<'_>) -> Result<(), NoMemory> {
         let told = faults(alloc, &self.doc)?;
         put_faults(alloc, out, &self.doc, page, told.as_slice());
         Ok(())
@@ -129,7 +124,12 @@ fn overtaken(
 }
 
 /// The note on a statement that doesn't see an earlier write.
-fn put_note(out: &mut Vec<u8>, page: Page<'_>, earlier: Write, index: usize) -> Result<(), NoMemory> {
+fn put_note(
+    out: &mut Vec<u8>,
+    page: Page<'_>,
+    earlier: Write,
+    index: usize,
+) -> Result<(), NoMemory> {
     let line = (index as u64).saturating_add(5);
     put_text(out, "note, line ")?;
     put_number(out, page.number(line))?;
@@ -137,7 +137,10 @@ fn put_note(out: &mut Vec<u8>, page: Page<'_>, earlier: Write, index: usize) -> 
     put_line(out, page.shown(line), 1, 0)?;
     put_text(out, "where ")?;
     put_name(out, earlier.key)?;
-    put_text(out, " and another key parameter are one key, this reads its value from before line ")?;
+    put_text(
+        out,
+        " and another key parameter are one key, this reads its value from before line ",
+    )?;
     put_number(out, page.number((earlier.index as u64).saturating_add(5)))?;
     put_text(out, "; in edition 2 it reads the new one\n")
 }

@@ -176,13 +176,7 @@ fn put_fault(
 /// Adds the messages about the faults of the document of a text, in their order, as long as
 /// allocations succeed: for each its place, the line, the name with carets below it, what is wrong,
 /// and the corrected line if there is one.
-pub fn put_faults(
-    alloc: Global,
-    out: &mut Vec<u8>,
-    doc: &Doc,
-    page: Page<'_>,
-    faults: &[Told],
-)
+pub fn put_faults(alloc: Global, out: &mut Vec<u8>, doc: &Doc, page: Page<'_>, faults: &[Told])
     ensures { IsOwnText page.entry → ReportsSome faults.now out.old.items out.new.items }
 {
     let mut shown = page;

@@ -53,10 +53,7 @@ impl<'a> BadLine<'a> {
             return self.put_end(out);
         }
         if !line.is_whole && halt.state == State::LineEnd && halt.offset == line.bytes.len() {
-            return put_text(
-                out,
-                "expected a newline: the last line ends with one too\n",
-            );
+            return put_text(out, "expected a newline: the last line ends with one too\n");
         }
         self.put_mistake(out, halt, Mistake::at(self.place, line.bytes, halt))
     }
@@ -111,7 +108,9 @@ impl<'a> BadLine<'a> {
     /// transaction's body.
     pub fn put_help(&self, alloc: Global, out: &mut Vec<u8>) -> Result<(), NoMemory> {
         let TextLine {
-            bytes, is_whole, ..
+            bytes,
+            is_whole,
+            ..
         } = self.line;
         if !is_whole && bytes.is_empty() && self.place == Place::Body {
             return put_text(out, "help: end\n");
@@ -227,7 +226,11 @@ pub fn whole_lines(text: &[u8]) -> u64 {
 }
 
 /// Why the next line of a text is bad; nothing if it isn't.
-fn badness_of(alloc: Global, walk: &Walk<'_>, line: TextLine<'_>) -> Result<Option<Badness>, NoMemory> {
+fn badness_of(
+    alloc: Global,
+    walk: &Walk<'_>,
+    line: TextLine<'_>,
+) -> Result<Option<Badness>, NoMemory> {
     if line.is_whole {
         return walk.badness(alloc, line.bytes);
     }
@@ -305,5 +308,10 @@ pub fn put_text_fault(
     };
     let mut walk = Walk::of(alloc, text);
     walk.pass_all(alloc, before)?;
-    put_bad_lines(alloc, out, walk, lines.saturating_sub(before).saturating_add(1))
+    put_bad_lines(
+        alloc,
+        out,
+        walk,
+        lines.saturating_sub(before).saturating_add(1),
+    )
 }

@@ -226,9 +226,10 @@ impl<'a> Walk<'a> {
         if self.kind == Kind::Log {
             return Ok(None);
         }
-        if let (Place::Keys | Place::Values, Some((line, name))) =
-            (place, self.parameters.named_before(line))
-        {
+        if let (Place::Keys | Place::Values, Some((line, name))) = (
+            place,
+            self.parameters.named_before(line),
+        ) {
             return Ok(Some(Badness::NamedBefore { line, name }));
         }
         if place == Place::Writes && !self.is_loose {
