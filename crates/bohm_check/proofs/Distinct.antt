@@ -20,7 +20,8 @@ pub one_more : (log : List Txn) (i : ℕ) (t : Txn) (k : List ℕ) (names read w
     → (is_among names k || is_declared (drop i log) k) ≡ is_declared log k → (is_among shrunk k || is_declared (drop (i + 1) log) k) ≡ is_declared log k
 one_more log i t k names read written shrunk at reads writes same so_far =
     let rest = is_declared (drop (i + 1) log) k in
-    let next : is_declared (drop i log) k ≡ ((is_among t.reads k || is_among t.writes k) || rest) = ap (λ (ts : List Txn). is_declared ts k) (drop_at log i t at) in
+    let next : is_declared (drop i log) k ≡ ((is_among t.reads k || is_among t.writes k) || rest) =
+    ap (λ (ts : List Txn). is_declared ts k) (drop_at log i t at) in
     let grown : is_among written k ≡ ((is_among names k || is_among t.reads k) || is_among t.writes k) =
     ap (λ (xs : List (List ℕ)). is_among xs k) writes
     ∙ among_append read t.writes k
