@@ -11,14 +11,17 @@ use Rattle.bohm_ledger.specs.Steps.{Finds, OnlyReads}
 use Rattle.bohm_ledger.proofs.Appending.{are_requests}
 use Rattle.bohm_ledger.proofs.Ready.{tables_kept}
 
-module _ {Defs : Type 0} (rules : Rules Defs) (edition : Edition) (bs : List (List ℕ)) (v : View) (place checkpoint : ℕ) (state : State Defs) (saved : Look) (ready : IsReady rules edition bs v place checkpoint state saved) where
+module _ {Defs : Type 0} (rules : Rules Defs) (edition : Edition) (bs : List (List ℕ)) (v : View) (place checkpoint : ℕ) (state : State Defs)
+    (saved : Look) (ready : IsReady rules edition bs v place checkpoint state saved) where
   pub all_requests : AreRequests (v.trees request_tree)
   all_requests row there = are_requests rules 1 (origin rules edition) bs row (ready.ledger.requests.back row there)
 
-  pub unanswered : (id : List ℕ) (row : Row) → Finds id row false (v.trees request_tree) → (p : ℕ) (answer : List ℕ) → Has (request_row p (id, answer)) (requests rules 1 (origin rules edition) bs) → ⊥
+  pub unanswered : (id : List ℕ) (row : Row) → Finds id row false (v.trees request_tree) → (p : ℕ) (answer : List ℕ)
+      → Has (request_row p (id, answer)) (requests rules 1 (origin rules edition) bs) → ⊥
   unanswered id row none p answer there = none p answer (ready.ledger.requests.there (request_row p (id, answer)) there)
 
-  pub answered : (id answer : List ℕ) (row : Row) → Has row (v.trees request_tree) → column row 0 ≡ Text id → column row 2 ≡ Text answer → (p : ℕ) × Has (request_row p (id, answer)) (requests rules 1 (origin rules edition) bs)
+  pub answered : (id answer : List ℕ) (row : Row) → Has row (v.trees request_tree) → column row 0 ≡ Text id → column row 2 ≡ Text answer → (p : ℕ)
+      × Has (request_row p (id, answer)) (requests rules 1 (origin rules edition) bs)
   answered id answer row there first third =
       let form = all_requests row there in
       let key : form.1.0 ≡ id = ap bytes (ap (λ r. column r 0) (sym form.2) ∙ first) in

@@ -77,7 +77,8 @@ row_without : (key : List ℕ) (was : Cell) (rows : List Row) (row : Row) → Ha
 row_without key Absent rows row there = there
 row_without key (Present v) rows row there = (gone_before (balance_row (key, v)) rows row there).0
 
-others_stay : (key : List ℕ) (was : Cell) (rows : List Row) (k : List ℕ) (v : ℤ) → key ≢ k → Has (balance_row (k, v)) rows → Has (balance_row (k, v)) (without_cell key was rows)
+others_stay : (key : List ℕ) (was : Cell) (rows : List Row) (k : List ℕ) (v : ℤ) → key ≢ k → Has (balance_row (k, v)) rows
+    → Has (balance_row (k, v)) (without_cell key was rows)
 others_stay key Absent rows k v other there = there
 others_stay key (Present z) rows k v other there =
     not_gone (balance_row (key, z)) rows (balance_row (k, v)) there (λ tied. other (sym (row_key (k, v) (key, z) (balance_tied (k, v) (key, z) tied))))
@@ -86,9 +87,11 @@ others_stay key (Present z) rows k v other there =
 its_own_gone : (key : List ℕ) (was : Cell) (rows : List Row) (v : ℤ) → Has (balance_row (key, v)) (without_cell key was rows) → was ≢ Present v
 its_own_gone key Absent rows v there = absent_apart v
 its_own_gone key (Present z) rows v there = λ e.
-    (gone_before (balance_row (key, z)) rows (balance_row (key, v)) there).1 (ap (λ x. entry_cmp plain (balance_row (key, v)) (balance_row (key, x))) (present_same z v e) ∙ tied_self (balance_row (key, v)))
+    (gone_before (balance_row (key, z)) rows (balance_row (key, v)) there).1
+    (ap (λ x. entry_cmp plain (balance_row (key, v)) (balance_row (key, x))) (present_same z v e) ∙ tied_self (balance_row (key, v)))
 
-with_row : (key : List ℕ) (is : Cell) (rows : List Row) (row : Row) → Has row (with_cell key is rows) → Has row rows ⊎ ((v : ℤ) × (is ≡ Present v) × (row ≡ balance_row (key, v)))
+with_row : (key : List ℕ) (is : Cell) (rows : List Row) (row : Row) → Has row (with_cell key is rows) → Has row rows
+    ⊎ ((v : ℤ) × (is ≡ Present v) × (row ≡ balance_row (key, v)))
 with_row key Absent rows row there = inl there
 with_row key (Present v) rows row there = elim (in_before (balance_row (key, v)) rows row there) [ inl same ↦ inr (v, refl, same) | inr before ↦ inl before ]
 
@@ -96,7 +99,8 @@ still_with : (key : List ℕ) (is : Cell) (rows : List Row) (row : Row) → Has 
 still_with key Absent rows row there = there
 still_with key (Present v) rows row there = still_in (balance_row (key, v)) rows row there
 
-its_own_there : (key : List ℕ) (is : Cell) (rows : List Row) (v : ℤ) → ((row : Row) → Has row rows → (e : List ℕ × ℤ) × (row ≡ balance_row e)) → is ≡ Present v → Has (balance_row (key, v)) (with_cell key is rows)
+its_own_there : (key : List ℕ) (is : Cell) (rows : List Row) (v : ℤ) → ((row : Row) → Has row rows → (e : List ℕ × ℤ) × (row ≡ balance_row e))
+    → is ≡ Present v → Has (balance_row (key, v)) (with_cell key is rows)
 its_own_there key Absent rows v shaped e = absurd (absent_apart v e)
 its_own_there key (Present z) rows v shaped e =
     let there : Has (balance_row (key, z)) (with_cell key (Present z) rows) = inserted (balance_row (key, z)) rows (λ row here tied.
@@ -127,7 +131,8 @@ put_key was now look key rows h held = record { each = each_row; all = all_rows 
             form.0,
             form.1,
             subst (λ k. with_key now key look k ≡ Present form.0.1) same (at_key now look key ∙ own form.0.1
-                (subst (λ k. Has (balance_row (k, form.0.1)) left) (sym same) (subst (λ r. Has r left) form.1 there)) (subst (λ k. look k ≡ Present form.0.1) (sym same) form.2)),
+                (subst (λ k. Has (balance_row (k, form.0.1)) left) (sym same) (subst (λ r. Has r left) form.1 there))
+                (subst (λ k. look k ≡ Present form.0.1) (sym same) form.2)),
           )
           | inr other ↦ (form.0, form.1, other_key now look key form.0.0 other ∙ form.2)
         ]
@@ -142,7 +147,8 @@ put_key was now look key rows h held = record { each = each_row; all = all_rows 
     all_rows k v is = elim (same_or_not key k) [
       | inl same ↦ subst (λ x. Has (balance_row (x, v)) (with_cell key (now key) left)) same
           (its_own_there key (now key) left v shaped (sym (at_key now look key) ∙ subst (λ x. with_key now key look x ≡ Present v) (sym same) is))
-      | inr other ↦ still_with key (now key) left (balance_row (k, v)) (others_stay key (was key) rows k v other (h.all k v (sym (other_key now look key k other) ∙ is)))
+      | inr other ↦ still_with key (now key) left (balance_row (k, v))
+          (others_stay key (was key) rows k v other (h.all k v (sym (other_key now look key k other) ∙ is)))
     ]
 
 pub balance_same : (look other : Look) (rows : List Row) → IsBalance look rows → ((k : List ℕ) → look k ≡ other k) → IsBalance other rows
@@ -154,7 +160,8 @@ balance_same look other rows h same = record {
 -- ---- all changed keys
 
 -- a key that was looked at holds what it holds now
-with_keys_now : (now : Look) (keys : List (List ℕ)) (look : Look) (k : List ℕ) → (is_among keys k ≡ false → look k ≡ now k) → with_keys now keys look k ≡ now k
+with_keys_now : (now : Look) (keys : List (List ℕ)) (look : Look) (k : List ℕ) → (is_among keys k ≡ false → look k ≡ now k)
+    → with_keys now keys look k ≡ now k
 with_keys_now now [] look k h = h refl
 with_keys_now now (x ∷ xs) look k h = with_keys_now now xs (with_key now x look) k (go (bytes_eq x k) h)
   where
@@ -162,7 +169,8 @@ with_keys_now now (x ∷ xs) look k h = with_keys_now now xs (with_key now x loo
     go true h none = refl
     go false h none = h none
 
-pub with_keys_all : (was now : Look) (keys : List (List ℕ)) (rows : List Row) → ((k : List ℕ) → is_among keys k ≡ false → was k ≡ now k) → IsBalance (with_keys now keys was) rows → IsBalance now rows
+pub with_keys_all : (was now : Look) (keys : List (List ℕ)) (rows : List Row) → ((k : List ℕ) → is_among keys k ≡ false → was k ≡ now k)
+    → IsBalance (with_keys now keys was) rows → IsBalance now rows
 with_keys_all was now keys rows changed h = balance_same (with_keys now keys was) now rows h (λ k. with_keys_now now keys was k (changed k))
 
 pub with_keys_more : (now : Look) (ks : List (List ℕ)) (k : List ℕ) (look : Look) → with_keys now (ks ++ k ∷ []) look ≡ with_key now k (with_keys now ks look)
@@ -184,7 +192,8 @@ pub rebalances_none : (v : View) (look : Look) → IsBalance look (v.trees balan
 rebalances_none v look h = record { balance = h; others = λ t other. refl; rest = refl }
 
 -- a key that didn't change
-pub key_same : (v : View) (was now look : Look) (key : List ℕ) → was key ≡ now key → IsBalance look (v.trees balance_tree) → (look key ≡ was key) ⊎ (look key ≡ now key) → Rebalances v v (with_key now key look)
+pub key_same : (v : View) (was now look : Look) (key : List ℕ) → was key ≡ now key → IsBalance look (v.trees balance_tree) → (look key ≡ was key)
+    ⊎ (look key ≡ now key) → Rebalances v v (with_key now key look)
 key_same v was now look key same h held = rebalances_none v (with_key now key look) (balance_same look (with_key now key look) (v.trees balance_tree) h each)
   where
     is : look key ≡ now key
@@ -196,11 +205,13 @@ key_same v was now look key same h held = rebalances_none v (with_key now key lo
       | inr other ↦ sym (other_key now look key k other)
     ]
 
-pub key_put : (a b : View) (was now look : Look) (key : List ℕ) (w i : Cell) → w ≡ was key → i ≡ now key → Sets a b balance_tree (with_cell key i (without_cell key w (a.trees balance_tree)))
+pub key_put : (a b : View) (was now look : Look) (key : List ℕ) (w i : Cell) → w ≡ was key → i ≡ now key
+    → Sets a b balance_tree (with_cell key i (without_cell key w (a.trees balance_tree)))
     → IsBalance look (a.trees balance_tree) → (look key ≡ was key) ⊎ (look key ≡ now key) → Rebalances a b (with_key now key look)
 key_put a b was now look key w i first second sets h held =
     let this : b.trees balance_tree ≡ with_cell key (now key) (without_cell key (was key) (a.trees balance_tree)) =
-    sets.this ∙ ap (λ x. with_cell key x (without_cell key w (a.trees balance_tree))) second ∙ ap (λ x. with_cell key (now key) (without_cell key x (a.trees balance_tree))) first in
+    sets.this ∙ ap (λ x. with_cell key x (without_cell key w (a.trees balance_tree))) second
+    ∙ ap (λ x. with_cell key (now key) (without_cell key x (a.trees balance_tree))) first in
     record {
       balance = subst (IsBalance (with_key now key look)) (sym this) (put_key was now look key (a.trees balance_tree) h held);
       others = sets.others;
@@ -214,7 +225,8 @@ rebalances_then a b c look more h k = record {
   rest = k.rest ∙ ap (λ (v : View). record v { trees = c.trees; cursors = c.cursors }) h.rest;
 }
 
-pub checkpoint_made : (a b c : View) (edition : Edition) (top : ℕ) (look : Look) → Rebalances a b look → SetsTree b c head_tree (put_row (head_row edition top)) → HasCheckpoint a.trees edition top look c.trees
+pub checkpoint_made : (a b c : View) (edition : Edition) (top : ℕ) (look : Look) → Rebalances a b look
+    → SetsTree b c head_tree (put_row (head_row edition top)) → HasCheckpoint a.trees edition top look c.trees
 checkpoint_made a b c edition top look one two =
     let put = sets_from b c head_tree (put_row (head_row edition top)) two in
     record {

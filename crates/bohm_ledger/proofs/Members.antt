@@ -1,5 +1,6 @@
 -- Which rows a tree has after an edit.
-use Rattle.std.proofs.Common.{◌≡◌, ◌≢◌, pos, if◌then◌else◌, ◌⊎◌, inl, inr, ℕ, ℤ, Bool, true, false, not, List, [], ◌∷◌, ◌++◌, refl, sym, ap, ◌∙◌, Less, Equal, Greater, is_eq}
+use Rattle.std.proofs.Common.{◌≡◌, ◌≢◌, pos, if◌then◌else◌, ◌⊎◌, inl, inr, ℕ, ℤ, Bool, true, false}
+use Rattle.std.proofs.Common.{not, List, [], ◌∷◌, ◌++◌, refl, sym, ap, ◌∙◌, Less, Equal, Greater, is_eq}
 use Rattle.std.specs.declared.cmp.Ordering.{Ordering}
 use Rattle.std.specs.Ordering.{match_ordering}
 use Rattle.std.proofs.lemmas.Cmp.{tied_itself}
@@ -54,7 +55,8 @@ request_tied m n a b tied =
     let id = texts_tied a.0 b.0 first.0 in
     let place = ints_tied (pos m) (pos n) second.0 in
     let answer = texts_tied a.1 b.1 third.0 in
-    ap (λ k. Text k ∷ Int (pos m) ∷ Text a.1 ∷ []) id ∙ ap (λ p. Text b.0 ∷ Int p ∷ Text a.1 ∷ []) place ∙ ap (λ t. Text b.0 ∷ Int (pos n) ∷ Text t ∷ []) answer
+    ap (λ k. Text k ∷ Int (pos m) ∷ Text a.1 ∷ []) id ∙ ap (λ p. Text b.0 ∷ Int p ∷ Text a.1 ∷ []) place
+    ∙ ap (λ t. Text b.0 ∷ Int (pos n) ∷ Text t ∷ []) answer
 
 pub tied_self : (row : Row) → entry_cmp plain row row ≡ Equal
 tied_self = tied_itself (entry_cmp_total plain)
@@ -69,7 +71,8 @@ pub inserted : (new : Row) (rows : List Row) → IsAlone new rows → Has new (i
 inserted new [] alone = inl refl
 inserted new (r ∷ rs) alone = go (entry_cmp plain r new) refl (inserted new rs (λ row here. alone row (inr here)))
   where
-    go : (o : Ordering) → entry_cmp plain r new ≡ o → Has new (insert_entry plain new rs) → Has new (match_ordering o (r ∷ insert_entry plain new rs) (r ∷ rs) (new ∷ r ∷ rs))
+    go : (o : Ordering) → entry_cmp plain r new ≡ o → Has new (insert_entry plain new rs)
+        → Has new (match_ordering o (r ∷ insert_entry plain new rs) (r ∷ rs) (new ∷ r ∷ rs))
     go Less is more = inr more
     go Equal is more = inl (sym (alone r (inl refl) is))
     go Greater is more = inl refl
@@ -78,7 +81,8 @@ pub still_in : (new : Row) (rows : List Row) (row : Row) → Has row rows → Ha
 still_in new [] row here = absurd here
 still_in new (r ∷ rs) row here = go (entry_cmp plain r new) (still_in new rs row) here
   where
-    go : (o : Ordering) → (Has row rs → Has row (insert_entry plain new rs)) → Has row (r ∷ rs) → Has row (match_ordering o (r ∷ insert_entry plain new rs) (r ∷ rs) (new ∷ r ∷ rs))
+    go : (o : Ordering) → (Has row rs → Has row (insert_entry plain new rs)) → Has row (r ∷ rs)
+        → Has row (match_ordering o (r ∷ insert_entry plain new rs) (r ∷ rs) (new ∷ r ∷ rs))
     go Less more (inl is) = inl is
     go Less more (inr there) = inr (more there)
     go Equal more there = there
@@ -89,7 +93,8 @@ in_before new [] row (inl is) = inl is
 in_before new [] row (inr none) = absurd none
 in_before new (r ∷ rs) row there = go (entry_cmp plain r new) (in_before new rs row) there
   where
-    go : (o : Ordering) → (Has row (insert_entry plain new rs) → (row ≡ new) ⊎ Has row rs) → Has row (match_ordering o (r ∷ insert_entry plain new rs) (r ∷ rs) (new ∷ r ∷ rs)) → (row ≡ new) ⊎ Has row (r ∷ rs)
+    go : (o : Ordering) → (Has row (insert_entry plain new rs) → (row ≡ new) ⊎ Has row rs)
+        → Has row (match_ordering o (r ∷ insert_entry plain new rs) (r ∷ rs) (new ∷ r ∷ rs)) → (row ≡ new) ⊎ Has row (r ∷ rs)
     go Less more (inl is) = inr (inl is)
     go Less more (inr there) = elim (more there) [ inl is ↦ inl is | inr before ↦ inr (inr before) ]
     go Equal more there = inr there

@@ -24,7 +24,8 @@ found : (es : List (List ℕ × ℤ)) (k : List ℕ) (v : ℤ) → cells es k �
 found [] k v is = absurd (absent_apart v is)
 found (e ∷ es) k v is = go (bytes_eq e.0 k) refl (found es k v) is
   where
-    go : (b : Bool) → bytes_eq e.0 k ≡ b → (cells es k ≡ Present v → Has (balance_row (k, v)) (map balance_row es)) → (if b then Present e.1 else cells es k) ≡ Present v
+    go : (b : Bool) → bytes_eq e.0 k ≡ b → (cells es k ≡ Present v → Has (balance_row (k, v)) (map balance_row es))
+        → (if b then Present e.1 else cells es k) ≡ Present v
         → Has (balance_row (k, v)) (balance_row e ∷ map balance_row es)
     go true same more is = inl (sym (ap (λ x. balance_row (x, e.1)) ((bytes_eq-Decides e.0 k).0 same) ∙ ap (λ x. balance_row (k, x)) (present_same e.1 v is)))
     go false other more is = inr (more is)
@@ -34,7 +35,8 @@ listed : (es : List (List ℕ × ℤ)) (k : List ℕ) (v : ℤ) → Has (balance
 listed [] k v none = absurd none
 listed (e ∷ es) k v there = go (bytes_eq e.0 k) refl (listed es k v) there
   where
-    go : (b : Bool) → bytes_eq e.0 k ≡ b → (Has (balance_row (k, v)) (map balance_row es) → (w : ℤ) × (cells es k ≡ Present w)) → Has (balance_row (k, v)) (balance_row e ∷ map balance_row es)
+    go : (b : Bool) → bytes_eq e.0 k ≡ b → (Has (balance_row (k, v)) (map balance_row es) → (w : ℤ) × (cells es k ≡ Present w))
+        → Has (balance_row (k, v)) (balance_row e ∷ map balance_row es)
         → (w : ℤ) × ((if b then Present e.1 else cells es k) ≡ Present w)
     go true same more there = (e.1, refl)
     go false other more (inl is) = absurd (let same = (bytes_eq-Decides e.0 k).1 (sym (row_key (k, v) e is)) in cc)
@@ -56,7 +58,8 @@ same_cells look es is k = go (cells es k) (look k) refl refl
 
 module _ {Defs : Type 0} (rules : Rules Defs) (meets : AreRules rules) (edition : Edition) (bs : List (List ℕ)) (mark : ℕ) where
   -- views: before, after the rollback, and after each of three readings
-  pub opened : (old a b c d : View) (is : IsLedger rules edition bs mark old.committed) (checkpoint place : ℕ) (e : Edition) (es : List (List ℕ × ℤ)) (s t : State Defs) (saved : Look)
+  pub opened : (old a b c d : View) (is : IsLedger rules edition bs mark old.committed) (checkpoint place : ℕ) (e : Edition) (es : List (List ℕ × ℤ))
+      (s t : State Defs) (saved : Look)
       → IsFresh old a → OnlyReads a b → OnlyReads b c → OnlyReads c d → e ≡ edition → checkpoint ≡ total rules (take mark bs)
       → b.trees balance_tree ≡ map balance_row es → saved ≡ cells es → s ≡ record { defs = rules.start e; look = cells es; top = checkpoint }
       → t ≡ loaded rules checkpoint s (c.trees batch_tree) → place ≡ next_place 1 (c.trees batch_tree)
@@ -66,11 +69,15 @@ module _ {Defs : Type 0} (rules : Rules Defs) (meets : AreRules rules) (edition 
       let from_c : c.trees ≡ old.committed = ap (λ (v : View). v.trees) bc ∙ from_b in
       let from_d : d.trees ≡ old.committed = ap (λ (v : View). v.trees) cd ∙ from_c in
       let shape : d.shape ≡ a.shape = ap (λ (v : View). v.shape) cd ∙ ap (λ (v : View). v.shape) bc ∙ ap (λ (v : View). v.shape) ab in
-      let committed : d.committed ≡ old.committed = ap (λ (v : View). v.committed) cd ∙ ap (λ (v : View). v.committed) bc ∙ ap (λ (v : View). v.committed) ab ∙ fresh.settled ∙ fresh.trees in
+      let committed : d.committed ≡ old.committed = ap (λ (v : View). v.committed) cd ∙ ap (λ (v : View). v.committed) bc
+      ∙ ap (λ (v : View). v.committed) ab ∙ fresh.settled ∙ fresh.trees in
       let table : old.committed balance_tree ≡ map balance_row es = ap (λ (db : Trees). db balance_tree) (sym from_b) ∙ rows in
-      let look : cells es ≡ (run rules (origin rules edition) (take mark bs)).look = fun_ext (same_cells (run rules (origin rules edition) (take mark bs)).look es (subst (IsBalance (run rules (origin rules edition) (take mark bs)).look) table is.balance)) in
+      let look : cells es ≡ (run rules (origin rules edition) (take mark bs)).look = fun_ext
+      (same_cells (run rules (origin rules edition) (take mark bs)).look es
+      (subst (IsBalance (run rules (origin rules edition) (take mark bs)).look) table is.balance)) in
       let batches : c.trees batch_tree ≡ old.committed batch_tree = ap (λ (db : Trees). db batch_tree) from_c in
-      let meet : Meets rules meets (total rules (take mark bs)) mark 1 bs (record { defs = rules.start edition; look = cells es; top = total rules (take mark bs) }) (origin rules edition) =
+      let meet : Meets rules meets (total rules (take mark bs)) mark 1 bs
+      (record { defs = rules.start edition; look = cells es; top = total rules (take mark bs) }) (origin rules edition) =
       record { defs = refl; look = look; top = refl; mark = omega arith; at = omega arith } in
       let leads = passing rules meets (total rules (take mark bs)) bs mark 1 1 _ (origin rules edition) (old.committed batch_tree) is.batches meet in
       record {
@@ -80,7 +87,8 @@ module _ {Defs : Type 0} (rules : Rules Defs) (meets : AreRules rules) (edition 
         mark = mark;
         ledger = subst (IsLedger rules edition bs mark) (sym from_d) is;
         placed = next ∙ ap (next_place 1) batches ∙ placed rules meets (total rules (take mark bs)) bs 1 1 1 (old.committed batch_tree) is.batches (inr refl);
-        ran = ran ∙ ap (λ x. loaded rules checkpoint x (c.trees batch_tree)) (first ∙ ap (λ x. record { defs = rules.start x; look = cells es; top = checkpoint }) same)
+        ran = ran ∙ ap (λ x. loaded rules checkpoint x (c.trees batch_tree))
+            (first ∙ ap (λ x. record { defs = rules.start x; look = cells es; top = checkpoint }) same)
             ∙ ap (λ rs. loaded rules checkpoint (record { defs = rules.start edition; look = cells es; top = checkpoint }) rs) batches
             ∙ ap (λ n. loaded rules n (record { defs = rules.start edition; look = cells es; top = n }) (old.committed batch_tree)) at ∙ leads.there;
         checkpointed = at;

@@ -32,5 +32,6 @@ from_no_key o [] = refl
 from_no_key o (e ∷ es) = refl
 
 -- one row more was taken from a cursor
-pub one_taken : {X : Type 0} (f : X → Row) (all left : List Row) (row : Row) (so_far now : List X) → all ≡ map f so_far ++ row ∷ left → map f now ≡ map f so_far ++ row ∷ [] → all ≡ map f now ++ left
+pub one_taken : {X : Type 0} (f : X → Row) (all left : List Row) (row : Row) (so_far now : List X) → all ≡ map f so_far ++ row ∷ left
+    → map f now ≡ map f so_far ++ row ∷ [] → all ≡ map f now ++ left
 one_taken f all left row so_far now is more = is ∙ sym (append_assoc (map f so_far) (row ∷ []) left) ∙ ap (λ rs. rs ++ left) (sym more)

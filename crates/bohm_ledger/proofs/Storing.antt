@@ -25,7 +25,8 @@ sets_then a b c tree rows more h k = record {
 }
 
 -- a tree that was edited once more
-pub sets_more : (a b c : View) (tree : ℕ) (rows more : List Row) (edit : List Row → List Row) → Sets a b tree rows → SetsTree b c tree edit → edit rows ≡ more → Sets a c tree more
+pub sets_more : (a b c : View) (tree : ℕ) (rows more : List Row) (edit : List Row → List Row) → Sets a b tree rows → SetsTree b c tree edit
+    → edit rows ≡ more → Sets a c tree more
 sets_more a b c tree rows more edit h k is =
     let after : Sets b c tree more = subst (Sets b c tree) (ap edit h.this ∙ is) (sets_from b c tree edit k) in
     sets_then a b c tree rows more h after
@@ -35,7 +36,8 @@ pub requests_more : (place : ℕ) (es : List (List ℕ × List ℕ)) (e : List �
 requests_more place [] e rows = refl
 requests_more place (x ∷ es) e rows = requests_more place es e (insert_entry plain (request_row place x) rows)
 
-pub batch_made : (a b c : View) (place first : ℕ) (text : List ℕ) (answers : List (List ℕ × List ℕ)) → SetsTree a b batch_tree (put_row (batch_row place first text))
+pub batch_made : (a b c : View) (place first : ℕ) (text : List ℕ) (answers : List (List ℕ × List ℕ))
+    → SetsTree a b batch_tree (put_row (batch_row place first text))
     → Sets b c request_tree (with_requests place answers (b.trees request_tree)) → HasBatch a.trees place first text answers c.trees
 batch_made a b c place first text answers one two =
     let put = sets_from a b batch_tree (put_row (batch_row place first text)) one in

@@ -48,7 +48,8 @@ pub record HasTables (v : View) : Type 0 where
   pub request : v.shape request_tree ≡ Index plain
 
 -- the store holds these batches, all of it is on the disk, and the machine has run them in order
-pub record IsReady {Defs : Type 0} (rules : Rules Defs) (edition : Edition) (bs : List (List ℕ)) (v : View) (place checkpoint : ℕ) (state : State Defs) (saved : Look) : Type 0 where
+pub record IsReady {Defs : Type 0} (rules : Rules Defs) (edition : Edition) (bs : List (List ℕ)) (v : View) (place checkpoint : ℕ)
+    (state : State Defs) (saved : Look) : Type 0 where
   pub sound : v.is_broken ≡ false
   pub settled : v.committed ≡ v.trees
   pub tables : HasTables v

@@ -9,7 +9,8 @@ abbrev pub passed : {Defs : Type 0} → Rules Defs → State Defs → List ℕ �
 passed rules s b = record { defs = rules.define s.defs b; look = s.look; top = s.top }
 
 abbrev pub taken : {Defs : Type 0} → Rules Defs → ℕ → State Defs → Row → State Defs
-taken rules checkpoint s row = if nat_lt (checkpoint + 1) (first_of row + rules.size (text_of row)) then after rules s (text_of row) else passed rules s (text_of row)
+taken rules checkpoint s row = if nat_lt (checkpoint + 1) (first_of row + rules.size (text_of row)) then after rules s
+    (text_of row) else passed rules s (text_of row)
 
 -- the state after these rows
 abbrev pub loaded : {Defs : Type 0} → Rules Defs → ℕ → State Defs → List Row → State Defs

@@ -105,13 +105,15 @@ pub record HasCheckpoint (old : Trees) (edition : Edition) (top : ℕ) (look : L
 
 -- some batches whose transactions are all at or below the bound left, and no other row differs
 pub record Forgets {Defs : Type 0} (rules : Rules Defs) (bound next : ℕ) (old new : View) : Type 0 where
-  pub kept : (checkpoint : ℕ) (bs : List (List ℕ)) → bound ≤ checkpoint → next ≡ 1 + length bs → AreKept rules checkpoint 1 1 bs (old.trees batch_tree) → AreKept rules checkpoint 1 1 bs (new.trees batch_tree)
+  pub kept : (checkpoint : ℕ) (bs : List (List ℕ)) → bound ≤ checkpoint → next ≡ 1 + length bs
+      → AreKept rules checkpoint 1 1 bs (old.trees batch_tree) → AreKept rules checkpoint 1 1 bs (new.trees batch_tree)
   pub others : (t : ℕ) → t ≢ batch_tree → new.trees t ≡ old.trees t
   pub rest : OnlyWrites old new
 
 -- the same of trees
 pub record AreLess {Defs : Type 0} (rules : Rules Defs) (bound next : ℕ) (old new : Trees) : Type 0 where
-  pub kept : (checkpoint : ℕ) (bs : List (List ℕ)) → bound ≤ checkpoint → next ≡ 1 + length bs → AreKept rules checkpoint 1 1 bs (old batch_tree) → AreKept rules checkpoint 1 1 bs (new batch_tree)
+  pub kept : (checkpoint : ℕ) (bs : List (List ℕ)) → bound ≤ checkpoint → next ≡ 1 + length bs → AreKept rules checkpoint 1 1 bs (old batch_tree)
+      → AreKept rules checkpoint 1 1 bs (new batch_tree)
   pub others : (t : ℕ) → t ≢ batch_tree → new t ≡ old t
 
 -- the row has the id and is one of these, or none of them has the id

@@ -53,7 +53,8 @@ impl<S: Store + Drop, M: Machine + Drop> Ledger<S, M> {
         edition: Edition,
     ) -> Result<Ledger<S, M>, (Fault, S)>
         ensures ready { IfOk result (λ it. IsClean (S.view it.store) → IsBlank (S.view store).committed
-            → IsReady M.rules edition [] (S.view it.store) it.place it.checkpoint (M.state it.machine) (M.saved it.machine)) }
+            → IsReady M.rules edition [] (S.view it.store)
+            it.place it.checkpoint (M.state it.machine) (M.saved it.machine)) }
         ensures edition { IfOk result (λ it. it.edition ≡ edition) }
         ensures clean { IfOk result (λ it. doubt (S.view store).is_clean ≤ doubt (S.view it.store).is_clean) }
 
@@ -87,7 +88,8 @@ impl<S: Store + Drop, M: Machine + Drop> Ledger<S, M> {
         // Whichever batches the store's last commit stands for: the machine has run them.
         ensures ready { IfOk result (λ it. IsClean (S.view it.store) → (edition : TheEdition) (bs : List (List ℕ))
             → StandsFor M.rules edition bs (S.view store).committed → (it.edition ≡ edition)
-            × IsReady M.rules edition bs (S.view it.store) it.place it.checkpoint (M.state it.machine) (M.saved it.machine)) }
+            × IsReady M.rules edition bs (S.view it.store)
+            it.place it.checkpoint (M.state it.machine) (M.saved it.machine)) }
         ensures same { IfOk result (λ it. IsClean (S.view it.store) → (S.view it.store).trees ≡ (S.view store).committed) }
         ensures clean { IfOk result (λ it. doubt (S.view store).is_clean ≤ doubt (S.view it.store).is_clean) }
 
@@ -122,15 +124,20 @@ impl<S: Store + Drop, M: Machine + Drop> Ledger<S, M> {
     /// further call fails with `Behind`: open the ledger again.
     pub fn append(&mut self, batch: &[u8]) -> Result<Vec<M::Reply>, Fault>
         ensures stored { OnOk result (IsClean (S.view self.new.store) → (bs : List (List ℕ))
-            → IsReady M.rules self.old.edition bs (S.view self.old.store) self.old.place self.old.checkpoint (M.state self.old.machine) (M.saved self.old.machine)
-            → IsReady M.rules self.old.edition (bs ++ batch.now ∷ []) (S.view self.new.store) self.new.place self.new.checkpoint (M.state self.new.machine) (M.saved self.new.machine)) }
+            → IsReady M.rules self.old.edition bs (S.view self.old.store)
+            self.old.place self.old.checkpoint (M.state self.old.machine) (M.saved self.old.machine)
+            → IsReady M.rules self.old.edition (bs ++ batch.now ∷ []) (S.view self.new.store)
+            self.new.place self.new.checkpoint (M.state self.new.machine) (M.saved self.new.machine)) }
         ensures replies { IfOk result (λ it. it.items ≡ M.replies (M.state self.old.machine) batch.now) }
         ensures durable { OnOk result (IsClean (S.view self.new.store) → (bs : List (List ℕ))
-            → IsReady M.rules self.old.edition bs (S.view self.old.store) self.old.place self.old.checkpoint (M.state self.old.machine) (M.saved self.old.machine)
+            → IsReady M.rules self.old.edition bs (S.view self.old.store)
+            self.old.place self.old.checkpoint (M.state self.old.machine) (M.saved self.old.machine)
             → (db : Trees) → S.recovers self.new.store db → StandsFor M.rules self.old.edition (bs ++ batch.now ∷ []) db) }
         ensures unchanged { OnErr result (IsClean (S.view self.new.store) → self.new.is_behind ≡ false → (bs : List (List ℕ))
-            → IsReady M.rules self.old.edition bs (S.view self.old.store) self.old.place self.old.checkpoint (M.state self.old.machine) (M.saved self.old.machine)
-            → IsReady M.rules self.old.edition bs (S.view self.new.store) self.new.place self.new.checkpoint (M.state self.new.machine) (M.saved self.new.machine)) }
+            → IsReady M.rules self.old.edition bs (S.view self.old.store)
+            self.old.place self.old.checkpoint (M.state self.old.machine) (M.saved self.old.machine)
+            → IsReady M.rules self.old.edition bs (S.view self.new.store)
+            self.new.place self.new.checkpoint (M.state self.new.machine) (M.saved self.new.machine)) }
         ensures behind { result ≡ Err Fault.Behind → self.old.is_behind ≡ true }
         ensures edition { self.new.edition ≡ self.old.edition }
         ensures clean { doubt (S.view self.old.store).is_clean ≤ doubt (S.view self.new.store).is_clean }
@@ -138,7 +145,8 @@ impl<S: Store + Drop, M: Machine + Drop> Ledger<S, M> {
         // A crash at any moment of the call leaves the batches from before it, with this one or
         // without.
         ensures any_moment { IsClean (S.view self.new.store) → (bs : List (List ℕ))
-            → IsReady M.rules self.old.edition bs (S.view self.old.store) self.old.place self.old.checkpoint (M.state self.old.machine) (M.saved self.old.machine)
+            → IsReady M.rules self.old.edition bs (S.view self.old.store)
+            self.old.place self.old.checkpoint (M.state self.old.machine) (M.saved self.old.machine)
             → (db : Trees) → S.recovers self.new.store db
             → StandsFor M.rules self.old.edition bs db ⊎ StandsFor M.rules self.old.edition (bs ++ batch.now ∷ []) db }
     {
@@ -169,19 +177,24 @@ impl<S: Store + Drop, M: Machine + Drop> Ledger<S, M> {
     /// The time grows with their number.
     pub fn checkpoint(&mut self) -> Result<(), Fault>
         ensures ready { OnOk result (IsClean (S.view self.new.store) → (bs : List (List ℕ))
-            → IsReady M.rules self.old.edition bs (S.view self.old.store) self.old.place self.old.checkpoint (M.state self.old.machine) (M.saved self.old.machine)
-            → IsReady M.rules self.old.edition bs (S.view self.new.store) self.new.place self.new.checkpoint (M.state self.new.machine) (M.saved self.new.machine)) }
+            → IsReady M.rules self.old.edition bs (S.view self.old.store)
+            self.old.place self.old.checkpoint (M.state self.old.machine) (M.saved self.old.machine)
+            → IsReady M.rules self.old.edition bs (S.view self.new.store)
+            self.new.place self.new.checkpoint (M.state self.new.machine) (M.saved self.new.machine)) }
         ensures marked { OnOk result (self.new.checkpoint ≡ (M.state self.old.machine).top) }
         ensures unchanged { OnErr result (IsClean (S.view self.new.store) → IsTrue (S.view self.new.store).is_open → (bs : List (List ℕ))
-            → IsReady M.rules self.old.edition bs (S.view self.old.store) self.old.place self.old.checkpoint (M.state self.old.machine) (M.saved self.old.machine)
-            → IsReady M.rules self.old.edition bs (S.view self.new.store) self.new.place self.new.checkpoint (M.state self.new.machine) (M.saved self.new.machine)) }
+            → IsReady M.rules self.old.edition bs (S.view self.old.store)
+            self.old.place self.old.checkpoint (M.state self.old.machine) (M.saved self.old.machine)
+            → IsReady M.rules self.old.edition bs (S.view self.new.store)
+            self.new.place self.new.checkpoint (M.state self.new.machine) (M.saved self.new.machine)) }
         ensures behind { result ≡ Err Fault.Behind → self.old.is_behind ≡ true }
         ensures edition { self.new.edition ≡ self.old.edition }
         ensures clean { doubt (S.view self.old.store).is_clean ≤ doubt (S.view self.new.store).is_clean }
 
         // A crash at any moment of the call leaves the same batches.
         ensures any_moment { IsClean (S.view self.new.store) → (bs : List (List ℕ))
-            → IsReady M.rules self.old.edition bs (S.view self.old.store) self.old.place self.old.checkpoint (M.state self.old.machine) (M.saved self.old.machine)
+            → IsReady M.rules self.old.edition bs (S.view self.old.store)
+            self.old.place self.old.checkpoint (M.state self.old.machine) (M.saved self.old.machine)
             → (db : Trees) → S.recovers self.new.store db → StandsFor M.rules self.old.edition bs db }
     {
         if self.is_behind {
@@ -208,17 +221,22 @@ impl<S: Store + Drop, M: Machine + Drop> Ledger<S, M> {
     /// with the number of batches that are looked at.
     pub fn forget_before(&mut self, sequence: u64) -> Result<(), Fault>
         ensures ready { OnOk result (IsClean (S.view self.new.store) → (bs : List (List ℕ))
-            → IsReady M.rules self.old.edition bs (S.view self.old.store) self.old.place self.old.checkpoint (M.state self.old.machine) (M.saved self.old.machine)
-            → IsReady M.rules self.old.edition bs (S.view self.new.store) self.new.place self.new.checkpoint (M.state self.new.machine) (M.saved self.new.machine)) }
+            → IsReady M.rules self.old.edition bs (S.view self.old.store)
+            self.old.place self.old.checkpoint (M.state self.old.machine) (M.saved self.old.machine)
+            → IsReady M.rules self.old.edition bs (S.view self.new.store)
+            self.new.place self.new.checkpoint (M.state self.new.machine) (M.saved self.new.machine)) }
         ensures unchanged { OnErr result (IsClean (S.view self.new.store) → IsTrue (S.view self.new.store).is_open → (bs : List (List ℕ))
-            → IsReady M.rules self.old.edition bs (S.view self.old.store) self.old.place self.old.checkpoint (M.state self.old.machine) (M.saved self.old.machine)
-            → IsReady M.rules self.old.edition bs (S.view self.new.store) self.new.place self.new.checkpoint (M.state self.new.machine) (M.saved self.new.machine)) }
+            → IsReady M.rules self.old.edition bs (S.view self.old.store)
+            self.old.place self.old.checkpoint (M.state self.old.machine) (M.saved self.old.machine)
+            → IsReady M.rules self.old.edition bs (S.view self.new.store)
+            self.new.place self.new.checkpoint (M.state self.new.machine) (M.saved self.new.machine)) }
         ensures edition { self.new.edition ≡ self.old.edition }
         ensures clean { doubt (S.view self.old.store).is_clean ≤ doubt (S.view self.new.store).is_clean }
 
         // A crash at any moment of the call leaves the same batches.
         ensures any_moment { IsClean (S.view self.new.store) → (bs : List (List ℕ))
-            → IsReady M.rules self.old.edition bs (S.view self.old.store) self.old.place self.old.checkpoint (M.state self.old.machine) (M.saved self.old.machine)
+            → IsReady M.rules self.old.edition bs (S.view self.old.store)
+            self.old.place self.old.checkpoint (M.state self.old.machine) (M.saved self.old.machine)
             → (db : Trees) → S.recovers self.new.store db → StandsFor M.rules self.old.edition bs db }
     {
         let bound = sequence.min(self.checkpoint);
@@ -235,13 +253,16 @@ impl<S: Store + Drop, M: Machine + Drop> Ledger<S, M> {
     /// The answer to the entry with this id, if one was stored. The time is that of one search.
     pub fn answer_to(&mut self, id: &[u8]) -> Result<Option<Vec<u8>>, Fault>
         ensures found { IfOk result (λ it. IsClean (S.view self.new.store) → (bs : List (List ℕ))
-            → IsReady M.rules self.old.edition bs (S.view self.old.store) self.old.place self.old.checkpoint (M.state self.old.machine) (M.saved self.old.machine)
+            → IsReady M.rules self.old.edition bs (S.view self.old.store)
+            self.old.place self.old.checkpoint (M.state self.old.machine) (M.saved self.old.machine)
             → MatchOption it
             ((place : ℕ) (answer : List ℕ) → ¬ Has (request_row place (id.now, answer)) (requests M.rules 1 (origin M.rules self.old.edition) bs))
             (λ answer. (place : ℕ) × Has (request_row place (id.now, answer.items)) (requests M.rules 1 (origin M.rules self.old.edition) bs))) }
         ensures ready { IsClean (S.view self.new.store) → OnOk result ((bs : List (List ℕ))
-            → IsReady M.rules self.old.edition bs (S.view self.old.store) self.old.place self.old.checkpoint (M.state self.old.machine) (M.saved self.old.machine)
-            → IsReady M.rules self.old.edition bs (S.view self.new.store) self.new.place self.new.checkpoint (M.state self.new.machine) (M.saved self.new.machine)) }
+            → IsReady M.rules self.old.edition bs (S.view self.old.store)
+            self.old.place self.old.checkpoint (M.state self.old.machine) (M.saved self.old.machine)
+            → IsReady M.rules self.old.edition bs (S.view self.new.store)
+            self.new.place self.new.checkpoint (M.state self.new.machine) (M.saved self.new.machine)) }
         ensures edition { self.new.edition ≡ self.old.edition }
         ensures clean { doubt (S.view self.old.store).is_clean ≤ doubt (S.view self.new.store).is_clean }
         ensures any_moment { (db : Trees) → S.recovers self.new.store db → S.recovers self.old.store db }

@@ -18,8 +18,10 @@ loop-key-preserved g c = record {
       let keys = c.changed-key-items.result.now in
       let at = c.loop-key.key-index in
       let so_far = c.loop-key.invariant.balance before h in
-      let one = c.in_ok-put_changed_key.ensures.ok clean (with_keys now (take at keys) was) so_far.balance (lemma.between was now was (take at keys) (λ k. inl refl) c.key-item.result) in
-      let next : take (at + 1) keys ≡ take at keys ++ c.key-item.result ∷ [] = take_more keys at c.key-item.result (omega arith) ∙ ap (λ y. take at keys ++ y ∷ []) (sym c.key-item.is) in
+      let one = c.in_ok-put_changed_key.ensures.ok clean (with_keys now (take at keys) was) so_far.balance
+      (lemma.between was now was (take at keys) (λ k. inl refl) c.key-item.result) in
+      let next : take (at + 1) keys ≡ take at keys ++ c.key-item.result ∷ [] = take_more keys at c.key-item.result (omega arith)
+      ∙ ap (λ y. take at keys ++ y ∷ []) (sym c.key-item.is) in
       let looks : with_key now c.key-item.result (with_keys now (take at keys) was) ≡ with_keys now (take (at + 1) keys) was =
       sym (lemma.with_keys_more now (take at keys) c.key-item.result was) ∙ ap (λ ks. with_keys now ks was) (sym next) in
       subst (Rebalances old (g.S.Store.view c.put_changed_key.new.store)) looks (lemma.rebalances_then _ _ _ _ _ so_far one);
@@ -38,7 +40,8 @@ returns-clause-ok g c clean h =
     let done = c.loop-key.invariant.balance clean h in
     let all : take c.loop-key.key-index keys ≡ keys = take_all c.loop-key.key-index keys (omega arith) in
     record {
-      balance = lemma.with_keys_all was now keys _ c.changed-key-items.ensures (subst (λ ks. IsBalance (with_keys now ks was) ((g.S.Store.view c.loop-key.store).trees balance_tree)) all done.balance);
+      balance = lemma.with_keys_all was now keys _ c.changed-key-items.ensures
+          (subst (λ ks. IsBalance (with_keys now ks was) ((g.S.Store.view c.loop-key.store).trees balance_tree)) all done.balance);
       others = done.others;
       rest = done.rest;
     }

@@ -17,10 +17,12 @@ returns-then-not-branch-clause-ok g c clean all =
     let second : IsClean (g.S.Store.view c.seek.new.self) = omega (arith, c.next.ensures.quiet.clean) in
     let first : IsClean old = omega (arith, c.seek.ensures.quiet.clean) in
     let shape : old.shape request_tree ≡ Index plain = (c.requires.steady first).tables.request in
-    let sorted : IsIndex plain (old.trees request_tree) = subst (λ s. IsShaped s (old.trees request_tree)) shape (g.met.S.Store.ordered c.args.store.now (c.in_ok-seek.ensures.sound second) request_tree) in
+    let sorted : IsIndex plain (old.trees request_tree) = subst (λ s. IsShaped s (old.trees request_tree)) shape
+    (g.met.S.Store.ordered c.args.store.now (c.in_ok-seek.ensures.sound second) request_tree) in
     let left : left_of (g.S.Store.view c.seek.new.self) 0 ≡ from_key plain (Text id ∷ []) (old.trees request_tree) =
     rw (c.in_ok-seek.ensures.ok second, c.in_ok-push.ensures.ok, c.clear.ensures, shape) refl in
-    let none = ended (g.S.Store.view c.seek.new.self) (g.S.Store.view c.next.new.self) 0 c.next.new.row (rw c.if-not-branch.true at (c.in_ok-next.ensures.ok clean)) in
+    let none = ended (g.S.Store.view c.seek.new.self) (g.S.Store.view c.next.new.self) 0 c.next.new.row
+    (rw c.if-not-branch.true at (c.in_ok-next.ensures.ok clean)) in
     lemma.finds_none id c.next.new.row (old.trees request_tree) sorted all (sym left ∙ none)
 
 pub returns-clause-ok : goal.returns-clause-ok
@@ -30,8 +32,10 @@ returns-clause-ok g c clean all =
     let second : IsClean (g.S.Store.view c.seek.new.self) = omega (arith, c.next.ensures.quiet.clean) in
     let first : IsClean old = omega (arith, c.seek.ensures.quiet.clean) in
     let shape : old.shape request_tree ≡ Index plain = (c.requires.steady first).tables.request in
-    let sorted : IsIndex plain (old.trees request_tree) = subst (λ s. IsShaped s (old.trees request_tree)) shape (g.met.S.Store.ordered c.args.store.now (c.in_ok-seek.ensures.sound second) request_tree) in
+    let sorted : IsIndex plain (old.trees request_tree) = subst (λ s. IsShaped s (old.trees request_tree)) shape
+    (g.met.S.Store.ordered c.args.store.now (c.in_ok-seek.ensures.sound second) request_tree) in
     let left : left_of (g.S.Store.view c.seek.new.self) 0 ≡ from_key plain (Text id ∷ []) (old.trees request_tree) =
     rw (c.in_ok-seek.ensures.ok second, c.in_ok-push.ensures.ok, c.clear.ensures, shape) refl in
-    let some = stepped (g.S.Store.view c.seek.new.self) (g.S.Store.view c.next.new.self) 0 c.next.new.row (rw c.if-not-branch.false at (c.in_ok-next.ensures.ok clean)) in
+    let some = stepped (g.S.Store.view c.seek.new.self) (g.S.Store.view c.next.new.self) 0 c.next.new.row
+    (rw c.if-not-branch.false at (c.in_ok-next.ensures.ok clean)) in
     lemma.finds _ id _ _ (old.trees request_tree) sorted all (sym left ∙ some) c.begins_with.ensures.yes c.begins_with.ensures.no

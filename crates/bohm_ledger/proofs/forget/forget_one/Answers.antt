@@ -12,6 +12,8 @@ returns-clause-ok g c clean =
     let now = g.S.Store.view c.delete.new.self in
     let before : IsClean mid = omega (arith, c.delete.ensures.quiet.clean) in
     let same : to_z w64 c.in-Some.at ≡ pos c.in-Some.at = grind (arith, ints) in
-    let there = subst (λ r. Has r ((g.S.Store.view c.args.store.now).trees batch_tree)) c.in-Some.ensures.0 (c.in_ok-next_batch.ensures.there before c.if-not-branch.false) in
-    lemma.forgets_one _ _ _ _ mid now c.in-Some.at c.in-Some.first _ (c.in_ok-next_batch.ensures.same before) (subst (λ z. SetsTree mid now batch_tree (without_rowid z)) same (c.in_ok-delete.ensures.ok clean)) there
+    let there = subst (λ r. Has r ((g.S.Store.view c.args.store.now).trees batch_tree)) c.in-Some.ensures.0
+    (c.in_ok-next_batch.ensures.there before c.if-not-branch.false) in
+    lemma.forgets_one _ _ _ _ mid now c.in-Some.at c.in-Some.first _ (c.in_ok-next_batch.ensures.same before)
+    (subst (λ z. SetsTree mid now batch_tree (without_rowid z)) same (c.in_ok-delete.ensures.ok clean)) there
     (sym c.is_plain.ensures ∙ c.if-not-is_plain.false) (omega arith) (omega arith)

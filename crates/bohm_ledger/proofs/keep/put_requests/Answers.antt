@@ -13,7 +13,8 @@ loop-answer-preserved g c = record {
       let answers = c.args.answers.now in
       let at = c.loop-answer.answer-index in
       let rows = (g.S.Store.view c.args.store.now).trees request_tree in
-      let next : take (at + 1) answers ≡ take at answers ++ c.answer-item.result ∷ [] = take_more answers at c.answer-item.result (omega arith) ∙ ap (λ y. take at answers ++ y ∷ []) (sym c.answer-item.is) in
+      let next : take (at + 1) answers ≡ take at answers ++ c.answer-item.result ∷ [] = take_more answers at c.answer-item.result (omega arith)
+      ∙ ap (λ y. take at answers ++ y ∷ []) (sym c.answer-item.is) in
       lemma.sets_more _ _ _ request_tree _ _ _ (c.loop-answer.invariant.sets before) (c.in_ok-put_request.ensures.ok clean)
       (lemma.requests_more c.args.place (take at answers) _ rows ∙ ap (λ es. with_requests c.args.place es rows) (sym next));
   kept = search rules;

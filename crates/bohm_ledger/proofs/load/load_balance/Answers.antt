@@ -19,5 +19,7 @@ rows-preserved g c = record {
   quiet = search rules;
   so_far = λ clean.
       let before : IsClean (g.S.Store.view c.rows.store) = omega (arith, c.next.ensures.quiet.clean) in
-      lemma.one_taken balance_row _ _ _ c.rows.balance.items c.take_entry.new.balance.items (c.rows.invariant.so_far before ∙ ap (λ rs. map balance_row c.rows.balance.items ++ rs) (lemma.stepped _ _ 0 _ (rw c.if-not-branch.false at (c.in_ok-next.ensures.ok clean)))) c.in_ok-take_entry.ensures;
+      lemma.one_taken balance_row _ _ _ c.rows.balance.items c.take_entry.new.balance.items
+      (c.rows.invariant.so_far before ∙ ap (λ rs. map balance_row c.rows.balance.items ++ rs)
+      (lemma.stepped _ _ 0 _ (rw c.if-not-branch.false at (c.in_ok-next.ensures.ok clean)))) c.in_ok-take_entry.ensures;
 }

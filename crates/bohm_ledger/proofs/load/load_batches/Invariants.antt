@@ -16,7 +16,9 @@ invariant-rows g l =
       reads : IsClean now → OnlyReads old now;
       quiet : IsQuiet g.S.Store.view g.S.Store.faults g.S.Store.recovers g.S.Store.is_shielded l.fn.store l.store;
       saved : g.M.Machine.saved l.machine ≡ g.M.Machine.saved l.fn.machine;
-      state : IsClean now → loaded rules l.checkpoint (g.M.Machine.state l.machine) (left_of now 0) ≡ loaded rules l.checkpoint (g.M.Machine.state l.fn.machine) (old.trees batch_tree);
+      state : IsClean now → loaded rules l.checkpoint (g.M.Machine.state l.machine) (left_of now 0) ≡ loaded rules l.checkpoint
+          (g.M.Machine.state l.fn.machine) (old.trees batch_tree);
       place : IsClean now → next_place l.place (left_of now 0) ≡ next_place 1 (old.trees batch_tree);
-      fit : IsClean now → Fit rules l.checkpoint (g.M.Machine.state l.fn.machine) (old.trees batch_tree) → Fit rules l.checkpoint (g.M.Machine.state l.machine) (left_of now 0);
+      fit : IsClean now → Fit rules l.checkpoint (g.M.Machine.state l.fn.machine) (old.trees batch_tree)
+          → Fit rules l.checkpoint (g.M.Machine.state l.machine) (left_of now 0);
     }

@@ -16,9 +16,11 @@ invariant_of-self g c = record {
 
 pub returns-then-not-branch-clause-found : goal.returns-then-not-branch-clause-found
 returns-then-not-branch-clause-found g c clean bs ready =
-    lemma.unanswered _ _ _ _ _ _ _ _ ready c.args.id.now c.find.new.row (rw c.if-not-branch.true at (c.in_ok-find.ensures.ok clean (lemma.all_requests _ _ _ _ _ _ _ _ ready)))
+    lemma.unanswered _ _ _ _ _ _ _ _ ready c.args.id.now c.find.new.row
+    (rw c.if-not-branch.true at (c.in_ok-find.ensures.ok clean (lemma.all_requests _ _ _ _ _ _ _ _ ready)))
 
 pub returns-in_ok-from_slice-in-Text-clause-found : goal.returns-in_ok-from_slice-in-Text-clause-found
 returns-in_ok-from_slice-in-Text-clause-found g c clean bs ready =
     let found = rw c.if-not-branch.false at (c.in_ok-find.ensures.ok clean (lemma.all_requests _ _ _ _ _ _ _ _ ready)) in
-    lemma.answered _ _ _ _ _ _ _ _ ready c.args.id.now _ c.find.new.row found.0 found.1 (sym c.in-Text.ensures ∙ ap Text (sym c.in_ok-from_slice-in-Text.ensures.items))
+    lemma.answered _ _ _ _ _ _ _ _ ready c.args.id.now _ c.find.new.row found.0 found.1
+    (sym c.in-Text.ensures ∙ ap Text (sym c.in_ok-from_slice-in-Text.ensures.items))

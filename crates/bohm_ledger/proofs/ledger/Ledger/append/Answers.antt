@@ -26,8 +26,10 @@ pub returns-clause-durable : goal.returns-clause-durable
 returns-clause-durable g c clean bs ready db left =
     let now = g.S.Store.view c.keep.new.store in
     let stored = c.in_ok-keep.ensures.stored clean in
-    let is : db ≡ now.trees = g.met.S.Store.settled c.keep.new.store db (lemma.open_of now (g.met.S.Store.broken_if_shut c.keep.new.store) stored.sound) left ∙ stored.settled in (
+    let is : db ≡ now.trees = g.met.S.Store.settled c.keep.new.store db
+    (lemma.open_of now (g.met.S.Store.broken_if_shut c.keep.new.store) stored.sound) left ∙ stored.settled in (
       ready.mark,
       subst (IsLedger _ _ _ ready.mark) (sym is)
-          (lemma.more_batch _ _ _ _ _ _ _ _ ready now.trees _ _ _ (omega (arith, c.top-top.ensures)) (c.as_slice-answers.ensures.value ∙ c.in_ok-ran.ensures.answers) (c.in_ok-keep.ensures.ok clean)),
+          (lemma.more_batch _ _ _ _ _ _ _ _ ready now.trees _ _ _ (omega (arith, c.top-top.ensures))
+          (c.as_slice-answers.ensures.value ∙ c.in_ok-ran.ensures.answers) (c.in_ok-keep.ensures.ok clean)),
     )

@@ -18,7 +18,8 @@ returns-clause-any_moment g c clean bs ready db left =
 
 pub returns-clause-ready : goal.returns-clause-ready
 returns-clause-ready g c clean bs ready =
-    lemma.checkpoint_ready _ _ _ _ _ _ _ _ ready _ _ _ _ c.top-top.ensures (c.in_ok-replace.ensures.ok clean (lemma.was_balance _ _ _ _ _ _ _ _ ready)) (c.in_ok-replace.ensures.stored clean)
+    lemma.checkpoint_ready _ _ _ _ _ _ _ _ ready _ _ _ _ c.top-top.ensures
+    (c.in_ok-replace.ensures.ok clean (lemma.was_balance _ _ _ _ _ _ _ _ ready)) (c.in_ok-replace.ensures.stored clean)
     c.note_checkpoint.ensures.state c.note_checkpoint.ensures.saved
 
 pub returns-in_err-replace-clause-unchanged : goal.returns-in_err-replace-clause-unchanged

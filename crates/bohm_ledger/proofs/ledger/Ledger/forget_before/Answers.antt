@@ -19,7 +19,8 @@ returns-clause-any_moment g c clean bs ready db left =
 
 pub returns-clause-ready : goal.returns-clause-ready
 returns-clause-ready g c clean bs ready =
-    lemma.less_ready _ _ _ _ _ _ _ _ ready _ c.min-bound.result (omega (arith, c.min-bound.ensures)) (c.in_ok-forget.ensures.ok clean) (c.in_ok-forget.ensures.stored clean)
+    lemma.less_ready _ _ _ _ _ _ _ _ ready _ c.min-bound.result (omega (arith, c.min-bound.ensures)) (c.in_ok-forget.ensures.ok clean)
+    (c.in_ok-forget.ensures.stored clean)
 
 pub returns-in_err-forget-clause-unchanged : goal.returns-in_err-forget-clause-unchanged
 returns-in_err-forget-clause-unchanged g c =
