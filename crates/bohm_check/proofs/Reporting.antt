@@ -15,7 +15,7 @@ longer : (first next : List Told) (told : Told) (old now later : List ℕ) → n
     → Adds (head_at told) now later → AreReported next old later
 longer first next told old now later more_of before adds more new reports =
     let whole : first ++ (told ∷ more) ≡ next ++ more = sym (append_assoc first (told ∷ []) more) ∙ ap (λ (xs : List Told). xs ++ more) (sym more_of) in
-    subst (λ (xs : List Told). Reports xs old new) whole (before (told ∷ more) new (later, (adds, reports)))
+    subst (λ (xs : List Told). Reports xs old new) whole (before (told ∷ more) new (later, adds, reports))
 
 -- the fault at an index was reported
 pub one_more : (faults : List Told) (i : ℕ) (d : Told) (old now later : List ℕ) → i < length faults → AreReported (take i faults) old now
