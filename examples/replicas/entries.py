@@ -6,7 +6,7 @@ from dataclasses import dataclass
 
 NAME = rb"[a-z][a-z0-9_]{0,31}"
 KEY = re.compile(NAME)
-CALL = re.compile(rb"call (" + NAME + rb")((?: [^ \n]+)*)\n")
+CALL = re.compile(rb"call (" + NAME + rb")((?: [!-~]+)*)\n")
 DEFINITION = re.compile(rb"define (" + NAME + rb")\n(procedure [12]\n.*)", re.DOTALL)
 # The line that makes a transaction one of edition 2.
 SECOND = b"log 2\n"
@@ -46,7 +46,7 @@ Entry = Definition | Call | Transaction | Shapeless
 
 def read(value: bytes) -> Entry:
     if found := CALL.fullmatch(value):
-        return Call(found[1], found[2].split())
+        return Call(found[1], found[2].split(b" ")[1:])
     lines = value.removeprefix(SECOND)
     if is_transaction(lines):
         return Transaction(1 if lines is value else 2, lines)

@@ -66,6 +66,7 @@ def bad_values() -> list[tuple[bytes, bytes]]:
     shapeless = [b"", b"\n", b"\0\xff\n", b"hello", one + one, b"a 5\n" + one, b"log 1\n" + one, b"log 2\nlog 2\n" + one, one[:-1], one + b"\n",
                  b"txn\nend\nend\n", b"txn\ntxn\nend\n", b"end\ntxn\n", b"txn\r\nreads\r\nwrites\r\nend\r\n",
                  b"call\n", b"call transfer a b 1", b"call transfer  a b 1\n", b"call transfer a b 1\n\n",
+                 b"call transfer a001 a002\t1\n", b"call transfer a001 a002 1\r\n", b"call transfer a001 a\xc3\xa9 1\n",
                  b"call Transfer a b 1\n", b"call transfer a b 1\ncall transfer a b 1\n", PROCEDURE,
                  b"define transfer\nprocedure 3\nreads\nwrites\nend\n", b"define 1\nprocedure 1\nreads\nwrites\nend\n"]
     faulty = [(b"txn\nend\n", b"line 3"), (b"log 2\ntxn\nreads b a\nwrites\nend\n", b"check order 1 0"),
