@@ -7,3 +7,4 @@ pub use Rattle.bohm_apply.specs.Runs
 pub use Rattle.bohm_run.specs.Headline
 pub use Rattle.bohm_machine.specs.Machines
 pub use Rattle.bohm_machine.specs.Segments
+pub use Rattle.bohm_run.specs.Agreeing

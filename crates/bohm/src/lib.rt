@@ -2,6 +2,7 @@
 //! it segment by segment. `CALLING.md` shows how.
 #![tactic(auto)]
 
+pub mod laws;
 mod running;
 
 pub use bohm_log::{DrawnSeed, FixedSeed, HashSeed};

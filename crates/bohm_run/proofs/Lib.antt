@@ -2,4 +2,5 @@ mod Refusals
 mod ChunkLaws
 mod StreamLaws
 mod AnswerLaws
+mod OneAnswer
 pub mod ForCallers

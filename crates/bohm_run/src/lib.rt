@@ -4,6 +4,7 @@
 
 mod answering;
 mod chunks;
+pub mod laws;
 mod streaming;
 
 pub use answering::{read_log, run_text, run_text_in_windows};

@@ -7,6 +7,8 @@ ghost use Rattle.bohm.specs.Print.{print_doc};
 ghost use Rattle.bohm.specs.Serial.{state};
 ghost use Rattle.bohm.specs.Stores.{cell_in, store_of};
 
+pub mod replicas;
+
 use bohm::{Cell, CheckFault, DrawnSeed, Key, NoMemory, PastFault, Settings, TextFault};
 use std::alloc::Global;
 use std::random::RandomSource;
