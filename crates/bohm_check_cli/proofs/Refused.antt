@@ -1,8 +1,9 @@
 -- Refusals of the check, by what is refused.
-use Rattle.std.proofs.Common.{◌≡◌, List, ℕ, refl, inl, inr}
-use Rattle.std.specs.Prelude.{Option, None}
-use Rattle.bohm_settings.specs.Given.{Given}
-use Rattle.bohm_answer.specs.Bytes.{ReadsAll}
+use Rattle.std.proofs.Common.{◌≡◌, ◌<◌, ◌≤◌, List, ℕ, length, refl, inl, inr, sym, subst}
+use Rattle.std.specs.Prelude.{Option}
+use Rattle.std.specs.Io.KnownBytes.{Consumes, IsAtEnd}
+use Rattle.bohm_types.specs.Limits.{longest_text}
+use Rattle.bohm_answer.specs.Bytes.{IsReadFault, ReadsAll}
 use Rattle.bohm_report.specs.Refused.{RunRefuses}
 use Rattle.bohm_run.specs.Headline.{IsBeforeWriting, Refuses}
 use Rattle.bohm_text.specs.Cut.{whole_lines}
@@ -32,6 +33,20 @@ refused text faults.Short line short check = short refl
 refused text (faults.Check f) line short check = check f refl
 refused text faults.NoMemory line short check = tt
 
+-- faults of reading
+pub of_reading : (unread unread' written written' : Option (List ℕ)) (fault : RunFault) → IsReadFault fault
+    → (fault ≡ TooLong → (bytes : List ℕ) × (longest_text < length bytes) × Consumes unread unread' bytes)
+    → RefusesToTell unread unread' written written' fault
+of_reading unread unread' written written' Read is long = inl (λ given. tt)
+of_reading unread unread' written written' TooLong is long =
+    let w = long refl in inl (λ given. record { bytes = w.0; long = w.1; read = w.2 })
+of_reading unread unread' written written' (Text fault) is long = absurd is
+of_reading unread unread' written written' (Check fault) is long = absurd is
+of_reading unread unread' written written' Trimmed is long = absurd is
+of_reading unread unread' written written' Future is long = absurd is
+of_reading unread unread' written written' NoMemory is long = inl (λ given. tt)
+of_reading unread unread' written written' (Write sent) is long = absurd is
+
 -- refusals before anything is written
 pub before_writing : (unread unread' written written' : Option (List ℕ)) (fault : RunFault) → IsBeforeWriting fault → RefusesText unread unread' fault
     → RefusesToTell unread unread' written written' fault
@@ -43,3 +58,12 @@ before_writing unread unread' written written' Trimmed before refuses = refuses
 before_writing unread unread' written written' Future before refuses = refuses
 before_writing unread unread' written written' NoMemory before refuses = refuses
 before_writing unread unread' written written' (Write sent) before refuses = absurd before
+
+-- a refusal of all that was read
+pub of_text : (unread unread' written written' : Option (List ℕ)) (text shown : List ℕ) (fault : RunFault) → shown ≡ text → Consumes unread unread' text
+    → IsAtEnd unread' → length text ≤ longest_text → IsBeforeWriting fault
+    → ((before after : Option (List ℕ)) → ReadsAll before after shown → RefusesText before after fault)
+    → RefusesToTell unread unread' written written' fault
+of_text unread unread' written written' text shown fault is read at_end short before refuses =
+    before_writing unread unread' written written' fault before
+    (refuses unread unread' (subst (ReadsAll unread unread') (sym is) (record { read = read; at_end = at_end; short = short })))

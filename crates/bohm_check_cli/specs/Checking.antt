@@ -50,6 +50,12 @@ pub record IsGoodProcedure (text line : List ℕ) : Type 0 where
   pub values : summary.values ≡ length procedure.values
   pub is : line ≡ procedure_line summary
 
+-- the text is a procedure's
+pub record IsProcedureText (text : List ℕ) : Type 0 where
+  pub procedure : Procedure
+  pub sound : IsProcedure procedure
+  pub prints : print_procedure procedure ≡ text
+
 abbrev pub IsGood : List ℕ → List ℕ → Type 0
 IsGood text line = IsGoodLog text line ⊎ IsGoodProcedure text line
 
@@ -68,6 +74,12 @@ pub record StopsTelling (unread unread' written written' : Option (List ℕ)) (s
   pub line : List ℕ
   pub good : IsGood text line
   pub wrote : Sends written written' line sent
+
+-- a procedure was read to the reader's end
+pub record ReadsProcedure (unread unread' : Option (List ℕ)) : Type 0 where
+  pub text : List ℕ
+  pub read : ReadsAll unread unread' text
+  pub is : IsProcedureText text
 
 -- ---- refusals
 

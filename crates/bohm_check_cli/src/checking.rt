@@ -1,10 +1,10 @@
 //! A check of a log or of a procedure, from bytes to bytes.
 
-ghost use Rattle.std.specs.Prelude.{◌≡◌, OnOk, IfErr, IfOk, None, ℕ, List, Option};
+ghost use Rattle.std.specs.Prelude.{◌≡◌, ◌⊎◌, OnOk, IfErr, IfOk, None, ℕ, List, Option};
 ghost use Rattle.bohm_answer.specs.Bytes.{ReadsAll};
-ghost use Rattle.bohm_check_cli.specs.Checking.{IsGood, IsGoodLog, IsGoodProcedure};
+ghost use Rattle.bohm_check_cli.specs.Checking.{IsGood, IsGoodLog, IsGoodProcedure, IsProcedureText};
 ghost use Rattle.bohm_check_cli.specs.Checking.{RefusesProcedure, RefusesText, RefusesToTell, Tells};
-ghost use Rattle.bohm_check_cli.specs.Checking.{procedure_refusal};
+ghost use Rattle.bohm_check_cli.specs.Checking.{ReadsProcedure, procedure_refusal};
 ghost use Rattle.bohm_report.specs.Refused.{RunRefuses};
 ghost use Rattle.bohm_run.specs.Headline.{IsBeforeWriting};
 
@@ -26,6 +26,7 @@ fn log_line<T: RandomSource>(
     report: &mut Vec<u8>,
 ) -> Result<Vec<u8>, RunFault>
     ensures good { IfOk result (λ line. IsGoodLog text.now line.items) }
+    ensures silent { OnOk result (report.new ≡ report.old) }
     ensures err { IfErr result (RunRefuses text.now) }
     ensures before { IfErr result IsBeforeWriting }
 {
@@ -82,6 +83,10 @@ pub fn check_text<T: RandomSource, R: Read, W: Write>(
     ensures ok { OnOk result
         (Tells (R.remaining reader.old) (R.remaining reader.new) (W.contents writer.old)
         (W.contents writer.new)) }
+
+    // Only a procedure may get a note.
+    ensures silent { OnOk result
+        (report.new ≡ report.old ⊎ ReadsProcedure (R.remaining reader.old) (R.remaining reader.new)) }
     ensures err { IfErr result
         (RefusesToTell (R.remaining reader.old) (R.remaining reader.new) (W.contents writer.old)
         (W.contents writer.new)) }
@@ -102,6 +107,7 @@ fn answer_line<T: RandomSource>(
     report: &mut Vec<u8>,
 ) -> Result<Vec<u8>, RunFault>
     ensures good { IfOk result (λ line. IsGood text.now line.items) }
+    ensures silent { OnOk result (report.new ≡ report.old ⊎ IsProcedureText text.now) }
     ensures err { IfErr result (λ e. (unread unread' : Option (List ℕ))
         → ReadsAll unread unread' text.now → RefusesText unread unread' e) }
     ensures before { IfErr result IsBeforeWriting }
