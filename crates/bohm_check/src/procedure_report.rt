@@ -254,7 +254,9 @@ pub fn check_loose_procedure(
     seed: DrawnSeed,
     loose: LooseText<'_>,
     report: &mut Vec<u8>,
-) -> Result<Procedure, ProcedureFault> {
+) -> Result<Procedure, ProcedureFault>
+    ensures { OnOk result (report.new ≡ report.old) }
+{
     match Procedure::read(alloc, seed, loose.exact) {
         Ok(procedure) => Ok(procedure),
         Err(fault) => {

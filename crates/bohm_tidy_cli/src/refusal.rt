@@ -1,6 +1,6 @@
 //! Why a loosely written text is refused, for the caller and for people.
 
-ghost use Rattle.std.specs.Prelude.{IfErr};
+ghost use Rattle.std.specs.Prelude.{◌≡◌, IfErr, OnOk};
 ghost use Rattle.bohm_answer.specs.Refusing.{IsBeforeWriting};
 
 use bohm_answer::RunFault;
@@ -82,7 +82,8 @@ fn check_log(
     report: &mut Vec<u8>,
     loose: LooseText<'_>,
 ) -> Result<(), RunFault>
-    ensures { IfErr result IsBeforeWriting }
+    ensures silent { OnOk result (report.new ≡ report.old) }
+    ensures before { IfErr result IsBeforeWriting }
 {
     let doc = match parse_with_seed(alloc, seed, loose.exact) {
         Ok(doc) => doc,
@@ -106,7 +107,8 @@ fn check_procedure(
     report: &mut Vec<u8>,
     loose: LooseText<'_>,
 ) -> Result<(), RunFault>
-    ensures { IfErr result IsBeforeWriting }
+    ensures silent { OnOk result (report.new ≡ report.old) }
+    ensures before { IfErr result IsBeforeWriting }
 {
     match check_loose_procedure(alloc, seed, loose, report) {
         Ok(_) => Ok(()),
@@ -126,7 +128,8 @@ pub fn check_exact(
     text: &[u8],
     exact: &[u8],
 ) -> Result<(), RunFault>
-    ensures { IfErr result IsBeforeWriting }
+    ensures silent { OnOk result (report.new ≡ report.old) }
+    ensures before { IfErr result IsBeforeWriting }
 {
     let numbered = numbered_lines(alloc, text)?;
     let loose = LooseText {

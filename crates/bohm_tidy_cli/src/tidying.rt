@@ -63,6 +63,7 @@ fn asked<T: RandomSource>(
     ensures exact { IfOk result (λ output. wishes.check ≡ false → wishes.keep_comments ≡ false
         → output.items ≡ exact.items) }
     ensures nothing { IfOk result (λ output. wishes.check ≡ true → output.items ≡ []) }
+    ensures silent { OnOk result (report.new ≡ report.old) }
     ensures before { IfErr result IsBeforeWriting }
 {
     if wishes.check {
@@ -94,6 +95,7 @@ pub fn tidy_text<T: RandomSource, R: Read, W: Write>(
         (W.contents writer.new)) }
     ensures checked { OnOk result (wishes.check ≡ true
         → Appends (W.contents writer.old) (W.contents writer.new) []) }
+    ensures silent { OnOk result (report.new ≡ report.old) }
     ensures sent { (sent : ℕ) → result ≡ Err (RunFault.Write sent) → wishes.check ≡ false
         → wishes.keep_comments ≡ false
         → StopsTidying (R.remaining reader.old) (R.remaining reader.new) (W.contents writer.old)
