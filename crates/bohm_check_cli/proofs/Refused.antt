@@ -1,11 +1,10 @@
 -- Refusals of the check, by what is refused.
-use Rattle.std.proofs.Common.{◌≡◌, ◌<◌, ◌≤◌, List, ℕ, length, refl, inl, inr, sym, subst}
+use Rattle.std.proofs.Common.{◌≡◌, ◌<◌, ◌≤◌, List, ℕ, length, refl, inl, sym, subst}
 use Rattle.std.specs.Prelude.{Option}
 use Rattle.std.specs.Io.KnownBytes.{Consumes, IsAtEnd}
 use Rattle.bohm_types.specs.Limits.{longest_text}
 use Rattle.bohm_answer.specs.Bytes.{IsReadFault, ReadsAll}
-use Rattle.bohm_report.specs.Refused.{RunRefuses}
-use Rattle.bohm_run.specs.Headline.{IsBeforeWriting, Refuses}
+use Rattle.bohm_run.specs.Headline.{IsBeforeWriting}
 use Rattle.bohm_text.specs.Cut.{whole_lines}
 use Rattle.bohm_text.specs.ProcedureFaults.{IsFirstBadLine, IsShort}
 use Rattle.bohm_txn.specs.declared.fault.CheckFault.{CheckFault}
@@ -16,15 +15,7 @@ use Rattle.bohm_answer.specs.declared.fault.RunFault.{RunFault}
 use Rattle.bohm_answer.specs.declared.fault.RunFault.TheVariants.{Read, TooLong, Text, Check, Trimmed, Future, NoMemory, Write}
 use Rattle.bohm_check_cli.specs.Checking.{RefusesProcedure, RefusesText, RefusesToTell, procedure_refusal}
 
--- a run's refusal of a log, and the library's of a procedure
-pub of_log : (text : List ℕ) (fault : RunFault) → RunRefuses text fault → (unread unread' : Option (List ℕ)) → ReadsAll unread unread' text
-    → RefusesText unread unread' fault
-of_log text fault refuses unread unread' read = inl (λ given. refuses given unread unread' read)
-
-pub of_procedure : (text : List ℕ) (fault : RunFault) → RefusesProcedure text fault → (unread unread' : Option (List ℕ)) → ReadsAll unread unread' text
-    → RefusesText unread unread' fault
-of_procedure text fault refuses unread unread' read = inr (record { text = text; read = read; refuses = refuses })
-
+-- the library's refusal of a procedure
 pub refused : (text : List ℕ) (fault : ProcedureFault) → ((n : ℕ) → fault ≡ faults.Line n → IsFirstBadLine (whole_lines text) n)
     → (fault ≡ faults.Short → IsShort text) → ((f : CheckFault) → fault ≡ faults.Check f → IsRefusedBy text f)
     → RefusesProcedure text (procedure_refusal fault)
