@@ -1,6 +1,6 @@
 /* bohm.h: the proved executor in another program.
  *
- * Link libbohm.a, or its shared object libbohm.so.0. docs/embedding.md says how they are built, what is proved about
+ * Link libbohm.a, or its shared object libbohm.so.1. docs/embedding.md says how they are built, what is proved about
  * each call, and what is trusted.
  *
  * These rules hold for every call:
@@ -13,19 +13,22 @@
  *   choose keys, draw the seed from a source of randomness such as getentropy, and keep it secret: whoever knows it can
  *   choose n keys that cost n * n steps. Otherwise any bytes will do. No answer, snapshot or digest depends on the
  *   seed: each replica draws its own.
- * - A call allocates from the C library's heap, and keeps no pointer to the caller's memory.
+ * - A call allocates from the C library's heap, or from the functions of bohm_use_allocator, and keeps no pointer to the
+ *   caller's memory.
+ * - A text that is read has at most BOHM_LONGEST_TEXT bytes; a longer one is BOHM_REFUSED with `refused: too long`.
  * - A call starts no thread, doesn't block, and reads and writes no file. It may be made from any thread, but not from
  *   a signal handler, nor from a forked child of a process with threads.
- * - A machine is used by one call at a time, even if the call doesn't change it, and is passed to another thread by a
- *   lock, or by that thread's start or end. The same holds for a procedure and for a list of calls. Two machines share
- *   nothing, and a list shares with its machine only data that never changes.
+ * - Calls that take a machine by a pointer to const may be made on it at once by several threads. Any other call is the
+ *   only one on the machine while it runs, and the machine is passed on to another thread by a lock, or by that thread's
+ *   start or end. The same holds for a procedure and for a list of calls. Two machines share nothing, and a list shares
+ *   with its machine only data that never changes.
  */
 #ifndef BOHM_H
 #define BOHM_H
 
 /* The version, and the checksum of the sources that the library is built from. */
-#define BOHM_VERSION "0.1.0"
-#define BOHM_SOURCES "c735b38c9fc72de4dfa8aafd4bd0fae847d7794debf496fb9be467a129d416fc"
+#define BOHM_VERSION "0.2.0"
+#define BOHM_SOURCES "f95673e63ea2e59cd1311aa09a7609eedd6700dbac8546420106ae2da190b605"
 
 /* The version and the checksum of the library that the program is linked with. */
 extern const char bohm_version[16], bohm_sources[65];
@@ -39,6 +42,16 @@ extern const char bohm_version[16], bohm_sources[65];
 #ifdef __cplusplus
 extern "C" {
 #endif
+
+/* The number of the interface that this header declares. It rises if a program that was built with an older header would
+ * have to be built again; the shared object has it in its name, and its symbols have the version BOHM_1. */
+#define BOHM_ABI 1
+
+/* The number of the interface of the library that the program runs with. */
+uint32_t bohm_abi(void);
+
+/* The most bytes of a text that a call reads. */
+#define BOHM_LONGEST_TEXT 67108864
 
 /* The status that a call returns. The library's proof has the same numbers, and tests/embed compares them. */
 enum {
@@ -60,6 +73,19 @@ enum {
 
 /* The text of a status. It is constant, and is never freed. */
 const char *bohm_status_text(uint32_t status);
+
+/* The functions by which the library allocates from here on, as malloc, realloc and free do, but with the context as
+ * first argument. `resize` isn't called with a null pointer, nor `release`. */
+typedef struct {
+    void *(*allocate)(void *context, size_t size);
+    void *(*resize)(void *context, void *at, size_t size);
+    void (*release)(void *context, void *at);
+    void *context;
+} bohm_allocator;
+
+/* Sets the allocator of the process, once, before any call that allocates: BOHM_DONE; or BOHM_MISUSE if a function is
+ * null, an allocator was set, or something was allocated. No other call may be made at the same time. */
+uint32_t bohm_use_allocator(const bohm_allocator *allocator);
 
 /* Bytes that a call returns with BOHM_DONE, BOHM_REFUSED or BOHM_STOPPED; with any other status they are
  * unchanged. {0} is no bytes. The caller frees them with bohm_free_bytes, or their pointer with bohm_free. */
