@@ -645,5 +645,7 @@ class Segments(unittest.TestCase):
 
 
 if __name__ == "__main__":
+    # A shell starts what runs in the background with this signal ignored.
+    signal.signal(signal.SIGINT, signal.default_int_handler)
     print("by the extension module" if bohm.NATIVE else "by ctypes", file=sys.stderr)
     unittest.main(argv=[sys.argv[0], *sys.argv[1:]], verbosity=int(os.environ.get("VERBOSITY", "1")))
