@@ -2,4 +2,5 @@ mod Words
 mod Sizes
 mod NameBytes
 mod Fronts
+mod FrontWords
 mod Marks

@@ -1,6 +1,6 @@
 //! Keys and names of locals.
 
-ghost use Rattle.std.specs.Prelude.{◌≡◌, ◌<◌, ◌≤◌, Some, IfSome, true, length, nat_eq};
+ghost use Rattle.std.specs.Prelude.{◌≡◌, ◌<◌, ◌≤◌, Some, IfSome, true, length, nat_eq, take};
 ghost use Rattle.std.specs.Ordering.{nat_cmp};
 ghost use Rattle.std.specs.Cmp.{partial_equiv_from_equiv};
 ghost use Rattle.std.specs.Cmp.Lexicographic.{pointwise, slice_cmp, nat_list_eq_equiv};
@@ -15,7 +15,7 @@ ghost use Rattle.bohm_types.specs.Keys.{place};
 ghost use Rattle.bohm_types.specs.Limits.{longest_name};
 
 use crate::packed_word::PackedWord;
-use crate::packing::{mixed, short_hash_at, size_of, spread, zeros_behind};
+use crate::packing::{mixed, short_hash_at, size_of, spread, words_at, zeros_behind};
 use std::cmp::Ordering;
 use std::hash::{Hash, Hasher};
 use std::marker::Model;
@@ -133,21 +133,24 @@ impl Key {
         ensures same { result ≡ bytes_eq self.now word.now }
         ensures name { result ≡ true → is_name word.now ≡ true }
     {
-        if word.bytes().len() > 7 {
-            return self.is_long(word.bytes());
+        let (text, size) = word.place();
+        if size > 7 {
+            return self.is_long(text, size);
         }
         self.is_short(word.bytes(), word.first())
     }
 
-    /// `is_word` for a word of more than 7 bytes. Few words are this long: the code isn't inlined,
-    /// and it takes the bytes, so that the packed word stays in registers.
+    /// `is_word` for the word of a text's first `size` bytes, which are more than 7. Few words are
+    /// this long: the code isn't inlined, and it takes no packed word, so that packed words stay in
+    /// registers.
     #[inline(never)]
-    fn is_long(&self, word: &[u8]) -> bool
-        ensures same { result ≡ bytes_eq self.now word.now }
-        ensures name { result ≡ true → is_name word.now ≡ true }
+    fn is_long(&self, text: &[u8], size: usize) -> bool
+        requires { size ≤ length text.now }
+        ensures same { result ≡ bytes_eq self.now (take size text.now) }
+        ensures name { result ≡ true → is_name (take size text.now) ≡ true }
     {
-        let words = PackedWord::new(word).words();
-        self.words == words && word.len() == size_of(&self.words)
+        let words = words_at(text, size);
+        self.words == words && size == size_of(&self.words)
     }
 
     /// `is_word` for a word of at most 7 bytes, packed into one word. A longer name has no 0 at the

@@ -5,37 +5,40 @@ ghost use Rattle.std.specs.List.{position_from};
 ghost use Rattle.std.specs.Int.{w64, from_be_bytes};
 ghost use Rattle.bohm_types.specs.Words.{padded, words_of};
 
-use crate::packing::{first_word, front_word, long_words_of, short_hash_at, short_hash_of};
+use crate::packing::{first_word, next_word, short_hash_at, short_hash_of, words_at};
 use std::marker::Model;
 use std::simd::prelude::*;
 
-/// A word, and its first 8 bytes as a number: most significant byte first, padded with zeros. It
-/// borrows the text.
+/// A word at the beginning of a text, and its first 8 bytes as a number: most significant byte
+/// first, padded with zeros. It borrows the text.
 #[derive(Drop)]
 pub struct PackedWord<'a> {
-    bytes: &'a [u8],
+    text: &'a [u8],
+    size: usize,
     first: u64,
 }
 
 impl<'a> Model for PackedWord<'a> {
-    ghost use Rattle.std.specs.Prelude.{◌≡◌, ℕ, List};
+    ghost use Rattle.std.specs.Prelude.{◌≡◌, ◌≤◌, ℕ, List, length, take};
     ghost use Rattle.std.specs.Int.{w64, from_be_bytes};
     ghost use Rattle.bohm_types.specs.Words.{padded};
 
     ghost Value = { List ℕ };
 
-    ghost view = { λ w. w.bytes.now };
+    ghost view = { λ w. take w.size w.text.now };
 
-    ghost invariant = { λ w. w.first ≡ from_be_bytes w64 (padded 8 w.bytes.now) };
+    ghost invariant = { λ w. (w.size ≤ length w.text.now)
+        × (w.first ≡ from_be_bytes w64 (padded 8 (take w.size w.text.now))) };
 }
 
-/// `short_hash` of a word of more than 7 bytes. Few words are this long: the code isn't inlined,
-/// and it takes the bytes, so that the packed word stays in registers.
+/// `short_hash` of a text's first `size` bytes, which are more than 7. Few words are this long: the
+/// code isn't inlined, and it takes no packed word, so that packed words stay in registers.
 #[inline(never)]
-fn long_hash(word: &[u8]) -> usize
+fn long_hash(text: &[u8], size: usize) -> usize
+    requires { size ≤ length text.now }
     ensures { result < 256 }
 {
-    short_hash_at(&PackedWord::new(word).words())
+    short_hash_at(&words_at(text, size))
 }
 
 /// Whether a packed word doesn't contain a byte. The padding has zeros, so a 0 may be found there.
@@ -57,22 +60,24 @@ impl<'a> PackedWord<'a> {
         ensures { result ≡ bytes.now }
     {
         PackedWord {
-            bytes,
+            text: bytes,
+            size: bytes.len(),
             first: first_word(bytes),
         }
     }
 
-    /// The word of a text's first `size` bytes, which are fewer than 8. The text has at least 8
-    /// bytes, so they are read at once.
+    /// The word of a text's first `size` bytes. The text has at least 8 bytes, so the first bytes are
+    /// read at once.
     #[inline(always)]
     pub fn front(text: &'a [u8], size: usize) -> PackedWord<'a>
-        requires short { size < 8 }
+        requires size { size ≤ length text.now }
         requires there { 8 ≤ length text.now }
         ensures { result ≡ take size text.now }
     {
         PackedWord {
-            bytes: &text[..size],
-            first: front_word(text, size),
+            text,
+            size,
+            first: next_word(text, size),
         }
     }
 
@@ -81,7 +86,16 @@ impl<'a> PackedWord<'a> {
     pub fn bytes(&self) -> &'a [u8]
         ensures { result.now ≡ self.now }
     {
-        self.bytes
+        &self.text[..self.size]
+    }
+
+    /// A text that begins with the word, and the word's length.
+    #[inline(always)]
+    pub(crate) fn place(&self) -> (&'a [u8], usize)
+        ensures size { result.1 ≤ length result.0.now }
+        ensures word { take result.1 result.0.now ≡ self.now }
+    {
+        (self.text, self.size)
     }
 
     /// Its first 8 bytes as a number.
@@ -100,7 +114,7 @@ impl<'a> PackedWord<'a> {
         ensures lacking { result ≡ true → position_from (λ other. other == byte) 0 self.now ≡ None }
         ensures exact { 0 < byte → position_from (λ other. other == byte) 0 self.now ≡ None → result ≡ true }
     {
-        lacks(self.bytes, self.first, byte)
+        lacks(self.bytes(), self.first, byte)
     }
 
     /// The bytes as the four words of a key. Most of them fit in the first word.
@@ -109,8 +123,8 @@ impl<'a> PackedWord<'a> {
     pub(crate) fn words(&self) -> [u64; 4]
         ensures { result ≡ words_of self.now }
     {
-        if self.bytes.len() > 8 {
-            return long_words_of(self.bytes);
+        if self.size > 8 {
+            return words_at(self.text, self.size);
         }
         [self.first, 0, 0, 0]
     }
@@ -120,8 +134,8 @@ impl<'a> PackedWord<'a> {
     pub(crate) fn short_hash(&self) -> usize
         ensures { result < 256 }
     {
-        if self.bytes.len() > 7 {
-            return long_hash(self.bytes);
+        if self.size > 7 {
+            return long_hash(self.text, self.size);
         }
         short_hash_of(self.first)
     }

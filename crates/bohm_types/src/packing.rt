@@ -40,6 +40,41 @@ pub(crate) fn front_word(text: &[u8], size: usize) -> u64
     first_word(text) >> shift << shift
 }
 
+/// `first_word` of a text's first `size` bytes, which may be more than 8. The text has at least 8
+/// bytes, which are read at once.
+#[inline(always)]
+pub(crate) fn next_word(text: &[u8], size: usize) -> u64
+    requires there { 8 ≤ length text.now }
+    ensures { result ≡ from_be_bytes w64 (padded 8 (take size text.now)) }
+{
+    if size < 8 {
+        return front_word(text, size);
+    }
+    first_word(text)
+}
+
+/// The words of a text's first `size` bytes. The text has at least 32 bytes, so each word is read
+/// at once.
+#[inline(always)]
+fn front_words(text: &[u8], size: usize) -> [u64; 4]
+    requires there { 32 ≤ length text.now }
+    ensures { result ≡ words_of (take size text.now) }
+{
+    let first = next_word(text, size);
+    if size <= 8 {
+        return [first, 0, 0, 0];
+    }
+    let second = next_word(&text[8..], size - 8);
+    if size <= 16 {
+        return [first, second, 0, 0];
+    }
+    let third = next_word(&text[16..], size - 16);
+    if size <= 24 {
+        return [first, second, third, 0];
+    }
+    [first, second, third, next_word(&text[24..], size - 24)]
+}
+
 /// The bytes after the first 8.
 fn behind(bytes: &[u8]) -> &[u8]
     ensures { result.now ≡ drop 8 bytes.now }
@@ -75,7 +110,7 @@ fn longest_words_of(name: &[u8]) -> [u64; 4]
 /// don't go through memory.
 #[inline(always)]
 #[tactic(auto, using(crate::proofs::Words::two_words))]
-pub(crate) fn long_words_of(name: &[u8]) -> [u64; 4]
+fn long_words_of(name: &[u8]) -> [u64; 4]
     ensures { result ≡ words_of name.now }
 {
     let second = behind(name);
@@ -83,6 +118,19 @@ pub(crate) fn long_words_of(name: &[u8]) -> [u64; 4]
         return [first_word(name), first_word(second), 0, 0];
     }
     longest_words_of(name)
+}
+
+/// The words of a text's first `size` bytes. They are read at once if the text has enough bytes
+/// behind them.
+#[inline(always)]
+pub(crate) fn words_at(text: &[u8], size: usize) -> [u64; 4]
+    requires { size ≤ length text.now }
+    ensures { result ≡ words_of (take size text.now) }
+{
+    if text.len() >= 32 {
+        return front_words(text, size);
+    }
+    long_words_of(&text[..size])
 }
 
 /// The bytes of four words.
