@@ -3,3 +3,4 @@ pub mod SubstitutionLaws
 pub mod InstanceLaw
 pub mod Calling
 pub mod OwnLaw
+pub mod StatementLaws

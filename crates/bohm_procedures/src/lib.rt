@@ -5,8 +5,10 @@ mod calls;
 mod fault;
 pub mod laws;
 mod procedure;
+mod statements;
 
 pub use bohm_log::KeyHandle;
 pub use calls::Calls;
 pub use fault::ProcedureFault;
 pub use procedure::Procedure;
+pub use statements::StatementLine;

@@ -30,14 +30,15 @@ pub struct Procedure {
 impl Model for Procedure {
     ghost use Rattle.std.specs.Prelude.{◌≡◌};
     ghost use Rattle.bohm_types.specs.Procedure.{Procedure};
-    ghost use Rattle.bohm_text.specs.ProcedureText.{print_procedure};
+    ghost use Rattle.bohm_text.specs.ProcedureText.{IsProcedure, print_procedure};
     ghost use Rattle.bohm_procedures.specs.Accepting.{IsAccepted};
 
     ghost Value = { Procedure };
 
     ghost view = { λ p. p.template };
 
-    ghost invariant = { λ p. IsAccepted p.template × (print_procedure p.template ≡ p.text.items) };
+    ghost invariant = { λ p. IsAccepted p.template × IsProcedure p.template
+        × (print_procedure p.template ≡ p.text.items) };
 }
 
 impl Procedure {
@@ -111,6 +112,13 @@ impl Procedure {
         ensures { IfOk result (λ text. text.items ≡ print_procedure self.now) }
     {
         Ok(Vec::from_slice(alloc, self.text.as_slice())?)
+    }
+
+    pub(crate) fn text(&self) -> &[u8]
+        ensures sound { IsProcedure self.now }
+        ensures is { result.now ≡ print_procedure self.now }
+    {
+        self.text.as_slice()
     }
 
     pub(crate) fn template(&self) -> &Template

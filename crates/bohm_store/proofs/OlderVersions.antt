@@ -4,7 +4,7 @@ use Rattle.std.proofs.Common.{get_or, slice_set, refl, sym, ap, ⊎_elim, arith,
 use Rattle.std.proofs.Common.{add-one, drop-cons}
 use Rattle.std.proofs.lemmas.Bool.{cases_eq}
 use Rattle.std.proofs.lemmas.Bool.Decides.{nat_tests}
-use Rattle.std.specs.Prelude.{option_to_list, Option}
+use Rattle.std.specs.Prelude.{option_to_list, slice_index_or, Option}
 use Rattle.std.proofs.lemmas.List.{get_or-set_same, get_or-set_other, get_or_default}
 use Rattle.std.proofs.lemmas.List.Elements.{All-head, All-tail, All-nil, All-cons, All-push, All-weaker}
 use Rattle.bohm_types.specs.declared.cell.Cell.TheVariants as cells
@@ -13,7 +13,7 @@ use Rattle.bohm_store.specs.Versions.{Rises, cell_at, kept_versions}
 use Rattle.bohm_store.specs.Chains.{Above, later_begins}
 use Rattle.bohm_store.proofs.Past.{cell_at-above}
 use Rattle.bohm_hints.specs.declared.held.Held.{Held}
-use Rattle.bohm_hints.specs.declared.held.Held.TheVariants.{Never}
+use Rattle.bohm_hints.specs.declared.held.Held.TheVariants.{Never, Absent, Present}
 use Rattle.bohm_store.specs.declared.older.Older.{Older}
 use Rattle.bohm_store.specs.Held.{held_versions, held_at}
 use Rattle.bohm_store.specs.Numbered.{EndsRise, IsLinked, IsNotDue, ends_of, first_after, older_of, version_of}
@@ -288,3 +288,16 @@ first_seen ts (o ∷ os) n held r h = seen_by ts o os n held (o.number == n) (na
 pub had : (now : List Held) (number : ℕ) (v : Held) (o : Option Version) → v ≡ get_or now number v → number < length now
     → option_to_list o ≡ held_versions v → held_at now number ≡ option_to_list o
 had now number v o at inside is = ap held_versions (get_or_default now number Never v inside ∙ sym at) ∙ sym is
+
+-- ---- without a past
+
+held_once : (v : Held) → length (held_versions v) ≤ 1
+held_once Never = omega arith
+held_once (Absent begin) = omega arith
+held_once (Present begin z) = omega arith
+
+-- if every older version ended above the top, there is none
+pub one_each : (top : ℕ) (os : List Older) (now : List Held) (n : ℕ) → EndsRise top os → All (λ (o : Older). top < o.end) os
+    → length (older_of os n ++ held_at now n) ≤ 1
+one_each top [] now n rise due = held_once (slice_index_or now n Never)
+one_each top (o ∷ os) now n rise due = absurd (omega (arith, rise.0, All-head (λ (p : Older). top < p.end) o os due))

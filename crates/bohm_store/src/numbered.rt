@@ -188,8 +188,8 @@ impl NumberedHistory {
     }
 
     /// If this floor is above the current one, it becomes the floor, and each key keeps the
-    /// versions that begin above it and the newest one at or below it. The time grows with the
-    /// number of versions that are dropped.
+    /// versions that begin above it and the newest one at or below it: at the top, one at most. The
+    /// time grows with the number of versions that are dropped.
     pub fn trim(&mut self, floor: u32)
         requires { floor ≤ self.old.top }
         ensures floor { self.new.floor ≡ max self.old.floor floor }
@@ -199,6 +199,7 @@ impl NumberedHistory {
             → versions_at self.new n ≡ kept_versions floor (versions_at self.old n) }
         ensures unchanged { floor ≤ self.old.floor → (n : ℕ)
             → versions_at self.new n ≡ versions_at self.old n }
+        ensures one { floor ≡ self.old.top → (n : ℕ) → length (versions_at self.new n) ≤ 1 }
         ensures rising { (n : ℕ) → Rises (versions_at self.old n) }
     {
         if floor <= self.floor {

@@ -171,11 +171,14 @@ lines_are_words p sound = (
       )),
 )
 
-pub text_stages : (p : Procedure) → IsProcedure p → stages Nothing (whole_lines (print_procedure p)) ≡ Some (Done p)
-text_stages p sound =
+pub lines_of_procedure : (p : Procedure) → IsProcedure p → whole_lines (print_procedure p) ≡ map line_text (procedure_lines p)
+lines_of_procedure p sound =
     let lack : AllByRecursion (IsWithout 10) (map line_text (procedure_lines p)) = each_map AreWords (IsWithout 10) line_text
     (λ ws words. line_lacks ws words) (procedure_lines p) (lines_are_words p sound) in
-    ap (stages Nothing) (lines_again (map line_text (procedure_lines p)) lack) ∙ procedure_stages p sound
+    lines_again (map line_text (procedure_lines p)) lack
+
+pub text_stages : (p : Procedure) → IsProcedure p → stages Nothing (whole_lines (print_procedure p)) ≡ Some (Done p)
+text_stages p sound = ap (stages Nothing) (lines_of_procedure p sound) ∙ procedure_stages p sound
 
 same_procedure : (p q : Procedure) → Done p ≡ Done q → p ≡ q
 same_procedure p q h = cc

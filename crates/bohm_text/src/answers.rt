@@ -22,7 +22,7 @@ fn put_count<I: Integer>(out: &mut Vec<u8>, count: I) -> Result<(), NoMemory>
 }
 
 /// The words of an abort up to the number of its statement.
-fn abort_text(reason: Reason) -> &'static [u8]
+pub fn abort_text(reason: Reason) -> &'static [u8]
     ensures { result.now ≡ codes " abort " ++ reason_word reason ++ codes " " }
 {
     match reason {

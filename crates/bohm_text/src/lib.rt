@@ -23,11 +23,12 @@ mod windows;
 mod words;
 
 pub use answers::{
-    print_answer, print_numbered, print_replies, print_store, put_replies, put_store,
+    abort_text, print_answer, print_numbered, print_replies, print_store, put_replies, put_store,
 };
 pub use fault::{TextFault, WindowFault};
-pub use parsing::{parse, parse_with_seed};
-pub use printing::{print_doc, put_body, put_entries};
+pub use numbers::read_number;
+pub use parsing::{parse, parse_with_seed, split_line};
+pub use printing::{print_doc, put_body, put_entries, put_stmt};
 pub use procedures::{ParamPlace, ProcedureReader, parse_procedure};
 pub use reply_text::ReplyText;
 pub use windows::{Chunk, FirstWindow, parse_first_window, parse_window};

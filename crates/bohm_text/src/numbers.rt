@@ -81,6 +81,7 @@ fn negated(magnitude: u64) -> Option<i64>
     }
 }
 
+/// The value that a word spells, as a store's line has it.
 #[tactic(auto, unfolding(crate::specs::Reading::number_of))]
 pub fn read_number(word: &[u8]) -> Option<i64>
     ensures { result ≡ number_of word.now }

@@ -114,7 +114,8 @@ fn put_key(out: &mut Vec<u8>, word: &[u8], key: Key) -> Result<(), NoMemory>
     Ok(())
 }
 
-fn put_stmt(out: &mut Vec<u8>, stmt: &StmtView<'_>) -> Result<(), NoMemory>
+/// Appends the text of a statement, without a newline. After an error `out` contains a prefix of it.
+pub fn put_stmt(out: &mut Vec<u8>, stmt: &StmtView<'_>) -> Result<(), NoMemory>
     ensures ok { IfOk result
         (λ _. out.new.items ≡ out.old.items ++ line_text (stmt_words stmt.now)) }
     ensures err { OnErr result (BeginsWith out.old.items out.new.items) }

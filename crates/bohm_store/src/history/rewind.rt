@@ -14,7 +14,8 @@ impl History {
     /// their numbers. The time grows with the number of keys and of the versions that are removed.
     /// It allocates nothing.
     pub fn rewind(&mut self, ts: u32)
-        requires { self.old.floor ≤ ts }
+        requires kept { self.old.floor ≤ ts }
+        requires there { ts ≤ self.old.top }
         ensures floor { self.new.floor ≡ self.old.floor }
         ensures top { self.new.top ≡ ts }
         ensures versions { (k : List ℕ) → versions self.new k ≡ versions_to ts

@@ -1,4 +1,4 @@
-use Rattle.std.proofs.Common.{◌≡◌, ◌<◌, ◌≤◌, ◌∙◌, List, ℕ, ap, refl, ⊎_elim, arith}
+use Rattle.std.proofs.Common.{◌≡◌, ◌<◌, ◌≤◌, ◌∙◌, List, ℕ, length, ap, refl, ⊎_elim, arith}
 use Rattle.std.proofs.lemmas.Bool.{cases_lt}
 use Rattle.bohm_types.specs.declared.cell.Cell.TheVariants.{Absent}
 use Rattle.bohm_store.specs.declared.version.Version.{Version}
@@ -47,3 +47,8 @@ pub returns-clause-count : goal.returns-clause-count
 returns-clause-count c =
     rw (← c.self.view_is) (trimmed_no_more (versions_at c.trim.new.self) (versions_at c.self.inside.numbered) c.self.inside.numbered.floor c.args.floor
     c.self.inside.names c.trim.ensures.versions c.trim.ensures.unchanged)
+
+pub returns-clause-one : goal.returns-clause-one
+returns-clause-one c =
+    rw (← c.self.view_is) (λ at_top k. all_versions (λ (vs : List Version). length vs ≤ 1) (versions_at c.trim.new.self) c.self.inside.names k
+    (omega arith) (c.trim.ensures.one at_top))

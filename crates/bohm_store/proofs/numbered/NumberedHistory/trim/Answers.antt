@@ -1,9 +1,12 @@
-use Rattle.std.proofs.Common.{◌≡◌, ◌++◌, ◌≤◌, ℕ}
+use Rattle.std.proofs.Common.{◌≡◌, ◌++◌, ◌<◌, ◌≤◌, ℕ, sym, subst, arith, ◌∙◌}
+use Rattle.std.specs.Prelude.{All}
 use Rattle.bohm_store.specs.declared.version.Version.{Version}
 use Rattle.bohm_store.specs.Versions.{kept_versions}
 use Rattle.bohm_store.proofs.NewestVersion.{All-kept, Rises-kept}
 use Rattle.bohm_store.specs.Held.{held_at}
 use Rattle.bohm_store.specs.Numbered.{older_of}
+use Rattle.bohm_store.specs.declared.older.Older.{Older}
+use Rattle.bohm_store.proofs.OlderVersions.{one_each}
 use Rattle.bohm_store.proofs.numbered.NumberedHistory.trim.Goals as goal
 
 pub invariant_of-self : goal.invariant_of-self
@@ -35,3 +38,17 @@ returns-clause-rising c = rw (← c.self.view_is) c.self.invariant.rising
 
 pub returns-then-floor-self-clause-rising : goal.returns-then-floor-self-clause-rising
 returns-then-floor-self-clause-rising c = rw (← c.self.view_is) c.self.invariant.rising
+
+pub returns-clause-one : goal.returns-clause-one
+returns-clause-one c =
+    let was = c.self.invariant in
+    rw (← c.self.view_is) (λ at_top n. one_each c.self.inside.top c.trim.new.older.items c.self.inside.newest.items n
+    (c.trim.ensures.climbs c.self.inside.top was.climbs)
+    (subst (λ (t : ℕ). All (λ (o : Older). t < o.end) c.trim.new.older.items) at_top (c.trim.ensures.due c.self.inside.top was.climbs)))
+
+pub returns-then-floor-self-clause-one : goal.returns-then-floor-self-clause-one
+returns-then-floor-self-clause-one c =
+    let was = c.self.invariant in
+    rw (← c.self.view_is) (λ at_top n. (let same : c.self.inside.floor ≡ c.self.inside.top = omega (arith, at_top, was.ordered, c.if-floor-self.true) in
+    one_each c.self.inside.top c.self.inside.older.items c.self.inside.newest.items n was.climbs
+    (subst (λ (t : ℕ). All (λ (o : Older). t < o.end) c.self.inside.older.items) same was.due)))
