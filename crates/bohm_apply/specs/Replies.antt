@@ -1,5 +1,5 @@
 -- The replies of batches and their transactions.
-use Rattle.std.specs.Prelude.{◌≡◌, ℕ, ℤ, ◌+◌, List, [], ◌∷◌, length, Some}
+use Rattle.std.specs.Prelude.{◌≡◌, ℕ, ℤ, ◌+◌, List, [], ◌∷◌, length, take, Some}
 use Rattle.bohm_types.specs.Txn.{Txn}
 use Rattle.bohm_txn.specs.declared.outcome.Reply.{Reply}
 use Rattle.bohm_txn.specs.Meaning.{body}
@@ -12,6 +12,8 @@ use Rattle.bohm_exec.specs.Moments.{state_before}
 use Rattle.bohm_store.specs.declared.listed_writes.ListedWrites.{ListedWrites}
 use Rattle.bohm_store.specs.Versions.{Timeline, past}
 use Rattle.bohm_store.specs.Writes.{AreNextShares}
+use Rattle.bohm_place.specs.Cuttings.{Cutting}
+use Rattle.bohm_apply.specs.Runs.{IsApplied, IsEndOfBatch}
 
 -- the replies of a finished batch over its base
 abbrev pub replies_of : Finished → List Reply
@@ -27,6 +29,13 @@ pub record IsEvaluated {A : Type 0} (appended : Appended A) (t : Timeline) (txns
   pub same : txns_of batch ≡ txns
   pub listed : AreNextShares t batch (length txns) shares
   pub told : appended (t.top + 1) was (replies (past t t.top) txns) now
+
+-- whole batches of a cut log were run, from the first on, and just their replies were appended
+pub record StopsBetween {A : Type 0} (appended : Appended A) (before after : Timeline) (c : Cutting) (keep : ℕ) (was now : A) : Type 0 where
+  pub run : ℕ
+  pub batches : IsEndOfBatch c.sizes run
+  pub applied : IsApplied before after (take run c.log) keep (replies (past before before.top) (take run c.log))
+  pub told : appended (before.top + 1) was (replies (past before before.top) (take run c.log)) now
 
 -- ---- of the transaction with the timestamp t, in the serial run
 

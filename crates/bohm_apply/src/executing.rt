@@ -10,7 +10,7 @@ ghost use Rattle.bohm_store.specs.Nexts.{IsSame};
 ghost use Rattle.bohm_store.specs.Versions.{past};
 ghost use Rattle.bohm_apply.specs.Lines.{IsWholeLine};
 ghost use Rattle.bohm_apply.specs.Progresses.{IsWalkOf};
-ghost use Rattle.bohm_apply.specs.Replies.{IsEvaluated};
+ghost use Rattle.bohm_apply.specs.Replies.{IsEvaluated, StopsBetween};
 ghost use Rattle.bohm_apply.specs.Runs.{IsApplied};
 ghost use Rattle.bohm_apply.specs.Sides.{CanExecute};
 
@@ -149,9 +149,10 @@ impl Executor {
         ran
     }
 
-    /// Runs the batches of a log by their plans, and appends the replies. An error ends the run.
-    /// The time grows with the number of the transactions' terms, and with the number of batches
-    /// for the start of their threads.
+    /// Runs the batches of a log by their plans, and appends the replies. If an allocation fails,
+    /// the history is at the end of a batch, and just the replies up to there were appended. The
+    /// time grows with the number of the transactions' terms, and with the number of batches for
+    /// the start of their threads.
     pub fn run_planned<S: ReplySink + Send + Drop, G: Gate, R: Threads + Sync>(
         &mut self,
         rt: &R,
@@ -172,6 +173,8 @@ impl Executor {
         ensures answered { let txns = (cutting_of log.entry).log in
             OnOk result (S.appended (history.old.top + 1) answered.old
             (replies (past history.old history.old.top) txns) answered.new) }
+        ensures stopped { OnErr result (StopsBetween S.appended history.old history.new
+            (cutting_of log.entry) self.old.keep answered.old answered.new) }
     {
         let mut start = 0usize;
         let mut place = 0u32;

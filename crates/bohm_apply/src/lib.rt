@@ -21,6 +21,6 @@ pub use bohm_settings::{
 };
 pub use executing::Executor;
 pub use plan_queue::{Line, PlanNote, PlanReceiver, PlanSender, plan_line};
-pub use running::{Answer, run};
+pub use running::{Answer, run, run_in_order};
 pub use serial_executor::SerialExecutor;
 pub use workers::ScratchPool;

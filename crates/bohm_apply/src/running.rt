@@ -8,7 +8,9 @@ ghost use Rattle.bohm_store.specs.Versions.{declared_writes, total};
 ghost use Rattle.bohm_apply.specs.Runs.{IsHistoryOf};
 
 use crate::applying::{Applied, apply};
+use crate::serial_executor::SerialExecutor;
 use bohm_exec::Gate;
+use bohm_hints::IndexHints;
 use bohm_log::DrawnSeed;
 use bohm_place::{Cuts, Partition};
 use bohm_settings::{Executors, Kept, Planners};
@@ -74,5 +76,41 @@ pub fn run<P: Partition, G: Gate, R: Threads + Wait + Sync + RandomSource>(
         gate,
     );
     end?;
+    Ok(Answer { replies, history })
+}
+
+/// Runs a checked log over its starting store on the calling thread, one transaction after another
+/// in log order, without plans. `keep` is how many timestamps below the top stay readable.
+///
+/// Keys are hashed with a seed that is drawn for this run.
+///
+/// # Errors
+///
+/// `NoMemory` if an allocation failed.
+///
+/// The time grows with the number of keys of the starting store and of the log's terms.
+pub fn run_in_order<R: RandomSource>(
+    rt: &R,
+    alloc: Global,
+    checked: &Checked,
+    keep: Kept,
+) -> Result<Answer, NoMemory>
+    ensures replies { let start = cell_in (store_of checked.now.store) in
+        IfOk result (λ a. a.replies ≡ replies start checked.now.log) }
+    ensures history { let start = cell_in (store_of checked.now.store) in
+        IfOk result (λ a. IsHistoryOf start checked.now.log keep a.history) }
+    ensures count { let given = length checked.now.store in
+        IfOk result (λ a. total a.history.chains ≤ given + declared_writes checked.now.log) }
+{
+    let mut history = History::open_with_seed(alloc, checked.store(), DrawnSeed::draw(rt))?;
+    let (mut replies, mut hints) = (Replies::new(alloc), IndexHints::new(alloc));
+    let mut executor = SerialExecutor::new(alloc)?;
+    executor.run(
+        &mut history,
+        &mut replies,
+        &checked.log(),
+        &mut hints,
+        keep.timestamps(),
+    )?;
     Ok(Answer { replies, history })
 }

@@ -116,9 +116,12 @@ impl SerialExecutor {
         Ok(())
     }
 
-    /// Runs a batch that follows the history's top, and appends its replies. An error leaves the
-    /// visible state unchanged.
-    fn run_batch(
+    /// Runs transactions that follow the history's top, all of one log, as one batch, and appends
+    /// their replies. An error leaves the visible state unchanged, and appends nothing.
+    ///
+    /// The hints are those of the transactions' log. The time is that of `run`; after an error it
+    /// also grows with the number of the history's keys.
+    pub fn run_batch(
         &mut self,
         history: &mut History,
         answered: &mut Replies,

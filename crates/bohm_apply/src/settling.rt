@@ -32,10 +32,11 @@ pub(crate) struct SettledShare<S: ReplySink> {
     writes: ListedWrites,
 }
 
-/// The number of transactions in each range, if there are this many workers.
+/// The number of transactions in each range: there are at most as many ranges as workers.
 fn share_size(workers: u32, count: u32) -> u32
     requires { 0 < workers }
-    ensures { 0 < result }
+    ensures some { 0 < result }
+    ensures enough { count ≤ workers * result }
 {
     count.div_ceil(workers).max(FEWEST)
 }

@@ -1,8 +1,9 @@
 //! Executes a batch by workers that run in parallel.
 
-ghost use Rattle.std.specs.Prelude.{◌≡◌, ℕ, ◌<◌, ◌≤◌, All, IfOk, length, slice_index_or, vec_len};
+ghost use Rattle.std.specs.Prelude.{◌≡◌, ℕ, ◌<◌, ◌≤◌, [], All, IfOk, length, slice_index_or, vec_len};
 ghost use denote.Param.Send.{IsSync};
 ghost use Rattle.bohm_board.specs.Passes.{IsPassOf, HoldsNothing, batch_of, view};
+ghost use Rattle.bohm_exec.specs.Counts.{counted_on};
 ghost use Rattle.bohm_exec.specs.Answers.{batch_of_finished};
 ghost use Rattle.bohm_apply.specs.Sweeps.{workers_of, IsReady, IsSwept, AreAllSwept};
 
@@ -29,9 +30,11 @@ fn deal(
 ) -> Result<(Pass, Vec<Job>), NoMemory>
     requires own { IsPassOf board.now pass }
     requires free { HoldsNothing (view pass) }
+    requires unused { (view pass).finished ≡ [] }
     requires scratches { workers ≤ vec_len pool.old.scratches }
     ensures own { IfOk result (λ r. IsPassOf board.now r.0) }
     ensures free { IfOk result (λ r. HoldsNothing (view r.0)) }
+    ensures unused { IfOk result (λ r. (view r.0).finished ≡ []) }
     ensures count { IfOk result (λ r. length r.1.items ≡ workers) }
     ensures ready { IfOk result (λ r. All (IsReady board.now) r.1.items) }
     ensures workers { IfOk result (λ r. (w : ℕ) (d : _) → w < workers
@@ -78,31 +81,36 @@ fn sweep_all<G: Gate, R: Threads + Sync>(
     Ok(swept)
 }
 
-/// Joins the passes of the workers, and gathers the positions that they deferred.
+/// Joins the passes of the workers, gathers the positions that they deferred, and adds up their
+/// evaluations.
 fn gather(
     alloc: Global,
     board: &Board,
     mut pass: Pass,
     swept: Vec<Swept>,
     pool: &mut ScratchPool,
-) -> Result<(Pass, Vec<Aside>), NoMemory>
+) -> Result<(Pass, Vec<Aside>, u64), NoMemory>
     requires own { IsPassOf board.now pass }
     requires free { HoldsNothing (view pass) }
+    requires unused { (view pass).finished ≡ [] }
     requires some { 0 < length swept.items }
     requires each { let count = length swept.items in (w : ℕ) (d : _) → w < count
         → IsSwept board.now (record { number = w; count = count }) (slice_index_or swept.items w d) }
     ensures own { IfOk result (λ r. IsPassOf board.now r.0) }
     ensures free { IfOk result (λ r. HoldsNothing (view r.0)) }
     ensures all { IfOk result (λ r. AreAllSwept (batch_of board.now) (view r.0) r.1.items) }
+    ensures counted { IfOk result (λ r. r.2 ≡ counted_on 0 (length (view r.0).finished)) }
     ensures pool { workers_of pool.new ≡ workers_of pool.old }
 {
     let mut asides = Vec::with_capacity(alloc, swept.len())?;
+    let mut evaluations = 0u64;
     for one in swept {
         pool.give_back(one.scratch)?;
         pass = board.join(pass, one.pass);
+        evaluations = evaluations.saturating_add(one.evaluations);
         asides.push(one.aside?)?;
     }
-    Ok((pass, asides))
+    Ok((pass, asides, evaluations))
 }
 
 /// Executes a batch with the workers of a pool, or with one worker for each transaction if those
@@ -127,7 +135,7 @@ pub fn finish_batch<'a, G: Gate, R: Threads + Sync>(
     let (board, pass) = Board::open(alloc, batch)?;
     let (pass, jobs) = deal(alloc, &board, pass, pool, workers)?;
     let swept = sweep_all(rt, alloc, &board, jobs, gate)?;
-    let (pass, asides) = gather(alloc, &board, pass, swept, pool)?;
+    let (pass, asides, evaluations) = gather(alloc, &board, pass, swept, pool)?;
     let closed = board.close(pass);
-    Ok(complete(closed, &asides, &mut pool.last))
+    Ok(complete(closed, &asides, &mut pool.last, evaluations))
 }

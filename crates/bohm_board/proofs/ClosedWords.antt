@@ -17,7 +17,7 @@ use Rattle.bohm_board.specs.Encoding.{word_of, outcome_at, progress_word, presen
 use Rattle.bohm_board.proofs.Inputs.{short_outcome}
 use Rattle.bohm_board.specs.Law.{IsTrueOf, IsSound}
 use Rattle.bohm_board.proofs.StateUpdates.{put_at, same_words}
-use Rattle.bohm_board.proofs.StepEvents.{outcome_back, two_at_least}
+use Rattle.bohm_board.proofs.StepEvents.{outcome_back, two_at_least, mine}
 use Rattle.bohm_board.proofs.Refinement.{true_of, right_presence}
 use Rattle.bohm_board.proofs.SlotNumbers.{number_inside, one_number, one_position, position_inside}
 use Rattle.bohm_board.proofs.SlotPlaces.{outcomes_long}
@@ -65,6 +65,7 @@ pub record IsEnd (b : Batch) (w : Words) (id : ℕ) (v : View) : Type 0 where
   pub shown : AreShown b w state
   pub reached : IsReached b state
   pub saw : IsTrueOf b state id v
+  pub mine : state.views id ≡ v
 
 -- a table's final words, copied into three vectors, show a reached state in which the pass's view is true
 pub settles : (b : Batch) (id : ℕ) (v : View) (ws : List ℕ) (xs : List (Unit {0})) (c : Words) (n m : ℕ) → v.right ≡ rights_of b
@@ -88,6 +89,7 @@ settles b id v ws xs c n m own final sized is_n is_m at_a at_b at_c =
       shown = subst (λ (z : Words). AreShown b z rule.state) same rule.shows.shown;
       reached = rule.reached;
       saw = true_of b final.0 rule id v final.1.1 own;
+      mine = mine b final.0 rule.state id v (record { shows = rule.shows; reached = rule.reached; view = final.1.1; right = own });
     }
 
 pub two_word : (c : Cell) → filled_word c ≢ 1 → filled_word c ≡ 2

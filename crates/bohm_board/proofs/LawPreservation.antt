@@ -16,7 +16,7 @@ use Rattle.bohm_board.specs.Core.{Progress, Open, Claimed, Done, State, IsFull}
 use Rattle.bohm_board.specs.Events.{Event, LookPresence, LookValue, Status, Claim, FillValue, FillPresence, Finish, Split, Join}
 use Rattle.bohm_board.specs.Events.{MayFill, MayFinish, IsAllowed, point_update, slot_update, status_of_progress, next_state}
 use Rattle.bohm_board.specs.Views.{Presence, Absent, Present, Holds, HasStored, HasFilledAll, presence_of, spent_view, after_presence_look}
-use Rattle.bohm_board.specs.Views.{after_status, after_claim, after_value_store, after_presence_store, after_finish, after_join}
+use Rattle.bohm_board.specs.Views.{after_status, after_claim, after_value_store, after_presence_store, after_finish, after_split, after_join}
 use Rattle.bohm_board.specs.Law.{IsSound, IsTrueOf, IsLawful}
 use Rattle.bohm_board.proofs.BoardLaw.{one_cell, presence_right, Grows, one_holder, wanted_filled, still, Advances, true_on}
 use Rattle.bohm_board.proofs.BoardLaw.{put_cases, slot_cases, moved, relearnt, more, both, nothing_in, true_of_newcomer}
@@ -322,8 +322,8 @@ presence_keeps b s p x c kept own may has =
 
 -- ---- copied and joined views are true
 
-true_copied : (b : Batch) (s : State) (p q : ℕ) (v : View) → v.held ≡ None → IsTrueOf b s p v → IsTrueOf b s q v
-true_copied b s p q v free k = record {
+true_copied : (b : Batch) (s : State) (p q : ℕ) (v : View) → v.right ≡ rights_of b → v.held ≡ None → IsTrueOf b s p v → IsTrueOf b s q (after_split v)
+true_copied b s p q v own free k = record {
   done = k.done;
   busy = k.busy;
   absent = k.absent;
@@ -331,7 +331,7 @@ true_copied b s p q v free k = record {
   held = λ t h. let no : None ≡ Some t = sym free ∙ h in absurd cc;
   stored = k.stored;
   filled = k.filled;
-  named = k.named;
+  named = inr own;
 }
 
 true_joined : (b : Batch) (s : State) (p q : ℕ) (v w : View) → v.right ≡ rights_of b → IsTrueOf b s p v → IsTrueOf b s q w → IsTrueOf b s p (after_join v w)
@@ -362,7 +362,7 @@ advances b s (Claim p t won.Done) kept may = relearnt b s p (after_status (s.vie
 advances b s (FillValue p x z) kept may = value_keeps b s p x z kept may.0 may.1
 advances b s (FillPresence p x c) kept may = presence_keeps b s p x c kept may.0 may.1 may.2
 advances b s (Finish p t o) kept may = finish_keeps b s p t o kept may.0 may.1
-advances b s (Split p q) kept may = relearnt b s q (s.views p) kept (true_copied b s p q (s.views p) may.1 (kept.each p))
+advances b s (Split p q) kept may = relearnt b s q (after_split (s.views p)) kept (true_copied b s p q (s.views p) may.0 may.1 (kept.each p))
     (may.1 ∙ sym (ap (λ (v : View). v.held) may.2))
 advances b s (Join p q) kept may =
     let v' : View = after_join (s.views p) (s.views q) in

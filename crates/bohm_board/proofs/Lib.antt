@@ -6,6 +6,7 @@ mod BoardLaw
 mod Evaluation
 mod LawPreservation
 mod EventRuns
+mod FinishedOnce
 mod StateUpdates
 mod StepEvents
 mod Refinement

@@ -9,7 +9,7 @@ use Rattle.bohm_board.specs.declared.slot.Slot.{Slot}
 use Rattle.bohm_board.specs.declared.status.Status.{Status}
 use Rattle.bohm_board.specs.declared.status.Status.TheVariants.{Open, Busy, Done}
 use Rattle.bohm_board.specs.declared.knowledge.View.{View}
-use Rattle.bohm_board.specs.Views.{Presence, IsKept, after_status, after_claim, after_presence_look, after_fill, after_join}
+use Rattle.bohm_board.specs.Views.{Presence, IsKept, after_status, after_claim, after_presence_look, after_fill, after_split, after_join}
 use Rattle.bohm_board.specs.Views as views
 use Rattle.bohm_board.proofs.BoardLaw.{nothing_in}
 
@@ -43,6 +43,9 @@ kept_filled v k (Present z) first held h = record {
   whole = λ j not c. ⊎_elim (h.whole j (λ d. not (Contains-append_left v.filled (k ∷ []) j d)))
       (λ (e : k ≡ j). not (subst (λ (y : Slot). Contains (v.filled ++ k ∷ []) y) e (Contains-push v.filled k))) (Contains-push_cases v.stored k j c);
 }
+
+pub kept_split : (v : View) (first : ℕ) (held : Option ℕ) → IsKept v first held → IsKept (after_split v) first held
+kept_split v first held k = record { holds = k.holds; timestamp = k.timestamp; whole = k.whole }
 
 pub kept_joined : (v w : View) (first : ℕ) (held : Option ℕ) → IsKept v first held → IsKept (after_join v w) first held
 kept_joined v w first held k = record { holds = k.holds; timestamp = k.timestamp; whole = k.whole }

@@ -23,7 +23,7 @@ use Rattle.bohm_board.specs.Events.{Event, LookPresence, LookValue, Status, Clai
 use Rattle.bohm_board.specs.Shown.{Words, all_words, IsRuled, IsBefore, IsStep, presence_place, value_place}
 use Rattle.bohm_board.specs.Steps.{MeetsStatus, MeetsClaim, MeetsFinish, MeetsPresence, MeetsValue, MeetsStore, MeetsFill, IsFillable}
 use Rattle.bohm_board.specs.Views.{Presence, Absent, Present, new_view, spent_view, after_status, after_claim, after_presence_look, after_value_store}
-use Rattle.bohm_board.specs.Views.{after_presence_store, after_finish, after_join, Holds, HasStored, KnowsWanted, HasFilledAll, Recalls, IsUnseen}
+use Rattle.bohm_board.specs.Views.{after_presence_store, after_finish, after_split, after_join, Holds, HasStored, KnowsWanted, HasFilledAll, Recalls, IsUnseen}
 use Rattle.bohm_board.specs.Encoding.{status_of, claim_of_word, word_of, progress_word, presence_word, presence_at, filled_word, value_at, present_at}
 use Rattle.bohm_board.proofs.LawPreservation.{held_learnt, right_learnt}
 use Rattle.bohm_board.specs.Law.{IsTrueOf, IsSound}
@@ -239,7 +239,7 @@ fills b slots id me i k d n word place inside own may has right t rule homes at 
 
 -- ---- splits and joins
 
-pub splits : (b : Batch) (id : ℕ) (v : View) → v.right ≡ rights_of b → v.held ≡ None → Splits (IsRuled b) id v v v
+pub splits : (b : Batch) (id : ℕ) (v : View) → v.right ≡ rights_of b → v.held ≡ None → Splits (IsRuled b) id v v (after_split v)
 splits b id v own free t rule at = goes b t _ rule (Split id (length t.views)) (split_step b t rule.state id v (before b t rule id v at own) free)
 
 pub joins : (b : Batch) (id : ℕ) (v : View) (other : ℕ) (x : View) → v.right ≡ rights_of b → v.held ≡ None → x.held ≡ None

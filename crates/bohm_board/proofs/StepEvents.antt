@@ -25,7 +25,7 @@ use Rattle.bohm_board.specs.Events.{Split, Join, MayFill, point_update, status_o
 use Rattle.bohm_board.specs.Shown.{Shows, IsBefore, IsStep, table_after_step, presence_place, value_place}
 use Rattle.bohm_board.specs.Steps.{IsFillable}
 use Rattle.bohm_board.specs.Views.{Presence, Absent, Present, presence_of, new_view, spent_view, after_status, after_claim, after_presence_look}
-use Rattle.bohm_board.specs.Views.{after_value_store, after_presence_store, after_finish, after_join, Holds, HoldsNothing, HasStored, KnowsWanted, HasFilledAll}
+use Rattle.bohm_board.specs.Views.{after_value_store, after_presence_store, after_finish, after_split, after_join, Holds, HoldsNothing, HasStored, KnowsWanted, HasFilledAll}
 use Rattle.bohm_board.specs.Encoding.{status_of, claim_of_word, status_of_claim, word_of, stmt_of, outcome_in, outcome_at}
 use Rattle.bohm_board.specs.Encoding.{progress_word, presence_word, presence_at, filled_word, value_at, present_at}
 use Rattle.bohm_board.proofs.Evaluation.{outcome_is_right, cell_is_right}
@@ -270,7 +270,7 @@ module _ (b : Batch) (t : T) (s : State) (p : ℕ) (v : View) (here : IsBefore b
 
   -- ---- splits and joins
 
-  pub split_step : HoldsNothing v → IsStep b s (Split p (length t.views)) (record { words = t.words; homes = t.homes; views = set t.views p v ++ v ∷ [] })
+  pub split_step : HoldsNothing v → IsStep b s (Split p (length t.views)) (record { words = t.words; homes = t.homes; views = set t.views p v ++ after_split v ∷ [] })
   split_step free =
       let d : View = new_view (rights_of b) in
       let long : length (set t.views p v) ≡ length t.views = length-set t.views p v in record {
@@ -278,9 +278,9 @@ module _ (b : Batch) (t : T) (s : State) (p : ℕ) (v : View) (here : IsBefore b
         shows = record {
           words = here.shows.words;
           line = here.shows.line;
-          shown = same_shown b here.shows.words s (point_update s.views (length t.views) (s.views p)) here.shows.shown;
-          views = λ q. (λ i. point_update s.views (sym long i) (mine i) q)
-              ∙ view_added d (set t.views p v) s.views v (same_view s.views mine here.shows.views) q;
+          shown = same_shown b here.shows.words s (point_update s.views (length t.views) (after_split (s.views p))) here.shows.shown;
+          views = λ q. (λ i. point_update s.views (sym long i) (after_split (mine i)) q)
+              ∙ view_added d (set t.views p v) s.views (after_split v) (same_view s.views mine here.shows.views) q;
         };
       }
 

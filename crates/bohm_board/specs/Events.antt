@@ -13,7 +13,7 @@ use Rattle.bohm_board.specs.declared.knowledge.View.{View}
 use Rattle.bohm_board.specs.Batches.{IsIn, IsSlot, rights_of}
 use Rattle.bohm_board.specs.Core.{Progress, Open, Claimed, Done, State, empty_state, outcome_over, cell_over}
 use Rattle.bohm_board.specs.Views.{Presence, presence_of, new_view, spent_view, after_status, after_claim, after_presence_look, after_value_store}
-use Rattle.bohm_board.specs.Views.{after_presence_store, after_finish, after_join, Holds, HoldsNothing, HasStored, KnowsWanted, HasFilledAll}
+use Rattle.bohm_board.specs.Views.{after_presence_store, after_finish, after_split, after_join, Holds, HoldsNothing, HasStored, KnowsWanted, HasFilledAll}
 use Rattle.bohm_board.specs.Encoding.{status_of_claim}
 
 -- an event of the pass p (and of q), with the answer or with the value that it stored
@@ -101,7 +101,7 @@ next_state s (FillPresence p x c) = record s {
   views = point_update s.views p (after_presence_store (s.views p) x);
 }
 next_state s (Finish p t o) = record s { positions = point_update s.positions t (Done o); views = point_update s.views p (after_finish (s.views p) t) }
-next_state s (Split p q) = with_view s q (s.views p)
+next_state s (Split p q) = with_view s q (after_split (s.views p))
 next_state s (Join p q) = with_view (with_view s p (after_join (s.views p) (s.views q))) q spent_view
 
 -- ---- lists of events

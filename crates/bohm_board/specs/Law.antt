@@ -1,5 +1,5 @@
 -- The board law.
-use Rattle.std.specs.Prelude.{◌≡◌, ◌≢◌, ◌⊎◌, ℕ, Contains, Some, None}
+use Rattle.std.specs.Prelude.{◌≡◌, ◌≢◌, ◌⊎◌, ℕ, ◌+◌, ◌<◌, ◌≤◌, ◌==◌, List, Contains, Some, None, count_by}
 use Rattle.bohm_types.specs.declared.cell.Cell.TheVariants as cells
 use Rattle.bohm_txn.specs.declared.outcome.Outcome.{Outcome}
 use Rattle.bohm_board.specs.declared.batch.Batch.{Batch}
@@ -35,6 +35,16 @@ pub record IsTrueOf (b : Batch) (s : State) (p : ℕ) (v : View) : Type 0 where
   pub present : (x : Slot) → Contains v.present x → s.presences x ≡ Some Present
   -- it belongs to the batch, or to a pass that a join consumed
   pub named : (v ≡ spent_view) ⊎ (v.right ≡ rights_of b)
+
+-- how often the position is in the list
+abbrev pub times : ℕ → List ℕ → ℕ
+times t xs = count_by (λ u. u == t) xs
+
+-- (g): each position is finished once, by one pass
+pub record IsFinishedOnce (s : State) : Type 0 where
+  pub done : (p t : ℕ) → 0 < times t (s.views p).finished → (o : Outcome) × (s.positions t ≡ Done o)
+  pub once : (p t : ℕ) → times t (s.views p).finished ≤ 1
+  pub apart : (p q t : ℕ) → p ≢ q → times t (s.views p).finished + times t (s.views q).finished ≤ 1
 
 -- a position is claimed by the pass that holds it, and by no other pass; so no two passes hold the same position
 pub record IsLawful (b : Batch) (s : State) : Type 0 where

@@ -24,7 +24,7 @@ presence_of (cells.Present z) = Present
 
 -- it knows the right outcomes and cells of its batch, and nothing else
 abbrev pub new_view : Rights → View
-new_view r = record { right = r; done = []; busy = []; absent = []; present = []; held = None; stored = []; filled = [] }
+new_view r = record { right = r; done = []; finished = []; busy = []; absent = []; present = []; held = None; stored = []; filled = [] }
 
 -- the view of a pass that a join consumed
 abbrev pub spent_view : View
@@ -65,11 +65,21 @@ after_fill v x cells.Absent = after_presence_store v x
 after_fill v x (cells.Present z) = after_presence_store (after_value_store v x) x
 
 abbrev pub after_finish : View → ℕ → View
-after_finish v t = record v { done = v.done ++ t ∷ []; held = None; stored = []; filled = [] }
+after_finish v t = record v { done = v.done ++ t ∷ []; finished = v.finished ++ t ∷ []; held = None; stored = []; filled = [] }
+
+-- the new pass of a split knows what the old one knew, and has finished nothing
+abbrev pub after_split : View → View
+after_split v = record v { finished = [] }
 
 -- the join of passes that hold nothing
 abbrev pub after_join : View → View → View
-after_join v w = record v { done = v.done ++ w.done; busy = v.busy ++ w.busy; absent = v.absent ++ w.absent; present = v.present ++ w.present }
+after_join v w = record v {
+  done = v.done ++ w.done;
+  finished = v.finished ++ w.finished;
+  busy = v.busy ++ w.busy;
+  absent = v.absent ++ w.absent;
+  present = v.present ++ w.present;
+}
 
 -- ---- positions, by their timestamps
 

@@ -28,6 +28,8 @@ pub struct View {
     pub right: Rights,
     /// Positions that it saw Done.
     pub done: LinkedList<u32>,
+    /// Positions that it finished.
+    pub finished: LinkedList<u32>,
     /// Positions that it saw Busy.
     pub busy: LinkedList<u32>,
     /// Slots that it knows to be `Absent`.

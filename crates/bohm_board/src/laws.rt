@@ -24,7 +24,7 @@ ghost use Rattle.bohm_board.specs.Steps.{IsFillable};
 ghost use Rattle.bohm_board.specs.Views.{Holds, HoldsNothing, HasFilledAll, HasStored, KnowsWanted};
 ghost use Rattle.bohm_board.specs.Views.{after_status, after_claim, after_presence_look};
 ghost use Rattle.bohm_board.specs.Views.{after_value_store, after_presence_store, after_finish};
-ghost use Rattle.bohm_board.specs.Views.{after_join, spent_view};
+ghost use Rattle.bohm_board.specs.Views.{after_split, after_join, spent_view};
 ghost use Rattle.bohm_board.specs.Encoding.{status_of, claim_of_word, word_of, presence_at};
 ghost use Rattle.bohm_board.specs.Encoding.{filled_word, value_at, present_at};
 
@@ -82,7 +82,11 @@ pub fn splits_and_joins_are_events()
     ensures split { (b : Batch) (t : Table (Unit {0}) View) (s : State) (p : ℕ) (v : View)
         → IsBefore b t s p v → HoldsNothing v
         → IsStep b s (Split p (length t.views))
-        (record { words = t.words; homes = t.homes; views = slice_set t.views p v ++ v ∷ [] }) }
+        (record {
+          words = t.words;
+          homes = t.homes;
+          views = slice_set t.views p v ++ after_split v ∷ [];
+        }) }
     ensures join { (b : Batch) (t : Table (Unit {0}) View) (s : State) (p q : ℕ) (v w : View)
         → IsBefore b t s p v → get_elem? t.views q ≡ some w → q ≢ p → HoldsNothing v
         → HoldsNothing w

@@ -1,3 +1,4 @@
+mod Counting
 mod Serials
 mod Strides
 mod Seen

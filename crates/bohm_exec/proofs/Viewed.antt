@@ -25,13 +25,14 @@ use Rattle.bohm_exec.specs.Steps.{LooksOnly}
 -- ---- looks
 
 pub no_looks : (v : View) → LooksOnly v v
-no_looks v = record { keeps = keeps_same v; done = refl; busy = refl; held = refl; stored = refl; filled = refl }
+no_looks v = record { keeps = keeps_same v; done = refl; finished = refl; busy = refl; held = refl; stored = refl; filled = refl }
 
 looks_on : (v w : View) (k : Slot) (answer : Option Cell) → LooksOnly v w → LooksOnly v (after_look w k answer)
 looks_on v w k None l = l
 looks_on v w k (Some Absent) l = record {
   keeps = keeps_then v w (after_look w k (Some Absent)) l.keeps (keeps_looked w k (Some Absent));
   done = l.done;
+  finished = l.finished;
   busy = l.busy;
   held = l.held;
   stored = l.stored;
@@ -40,6 +41,7 @@ looks_on v w k (Some Absent) l = record {
 looks_on v w k (Some (Present z)) l = record {
   keeps = keeps_then v w (after_look w k (Some (Present z))) l.keeps (keeps_looked w k (Some (Present z)));
   done = l.done;
+  finished = l.finished;
   busy = l.busy;
   held = l.held;
   stored = l.stored;
@@ -54,6 +56,7 @@ pub then_looks : (u v w : View) → LooksOnly u v → LooksOnly v w → LooksOnl
 then_looks u v w a b = record {
   keeps = keeps_then u v w a.keeps b.keeps;
   done = b.done ∙ a.done;
+  finished = b.finished ∙ a.finished;
   busy = b.busy ∙ a.busy;
   held = b.held ∙ a.held;
   stored = b.stored ∙ a.stored;
@@ -99,17 +102,18 @@ well_formed b t x at = formed_at (txns_of b) b.batched.formed (position b t) x a
 pub record FillsOnly (v w : View) : Type 0 where
   pub right : w.right ≡ v.right
   pub done : w.done ≡ v.done
+  pub finished : w.finished ≡ v.finished
   pub busy : w.busy ≡ v.busy
   pub absent : w.absent ≡ v.absent
   pub present : w.present ≡ v.present
   pub held : w.held ≡ v.held
 
 pub no_fills : (v : View) → FillsOnly v v
-no_fills v = record { right = refl; done = refl; busy = refl; absent = refl; present = refl; held = refl }
+no_fills v = record { right = refl; done = refl; finished = refl; busy = refl; absent = refl; present = refl; held = refl }
 
 fills_on : (v w : View) (k : Slot) (c : Cell) → FillsOnly v w → FillsOnly v (after_fill w k c) × ((after_fill w k c).filled ≡ w.filled ++ k ∷ [])
-fills_on v w k Absent f = (record { right = f.right; done = f.done; busy = f.busy; absent = f.absent; present = f.present; held = f.held }, refl)
-fills_on v w k (Present z) f = (record { right = f.right; done = f.done; busy = f.busy; absent = f.absent; present = f.present; held = f.held }, refl)
+fills_on v w k Absent f = (record { right = f.right; done = f.done; finished = f.finished; busy = f.busy; absent = f.absent; present = f.present; held = f.held }, refl)
+fills_on v w k (Present z) f = (record { right = f.right; done = f.done; finished = f.finished; busy = f.busy; absent = f.absent; present = f.present; held = f.held }, refl)
 
 -- after one more fill, still nothing else has changed, and the slot is the last one filled
 pub one_fill : (v w u : View) (k : Slot) (c : Cell) → FillsOnly v w → u ≡ after_fill w k c → FillsOnly v u × (u.filled ≡ w.filled ++ k ∷ [])

@@ -4,3 +4,4 @@ pub mod Moments
 pub mod Steps
 pub mod Answers
 pub mod Shares
+pub mod Counts

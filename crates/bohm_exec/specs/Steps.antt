@@ -62,6 +62,7 @@ pub record IsEmptyFor (b : Batch) (stack : Vec ℕ Global) : Type 0 where
 pub record LooksOnly (v w : View) : Type 0 where
   pub keeps : Keeps v w
   pub done : w.done ≡ v.done
+  pub finished : w.finished ≡ v.finished
   pub busy : w.busy ≡ v.busy
   pub held : w.held ≡ v.held
   pub stored : w.stored ≡ v.stored

@@ -1,11 +1,12 @@
 //! Evaluating the positions that no sweep finished.
 
-ghost use Rattle.std.specs.Prelude.{◌≡◌, ◌≢◌, ◌<◌, ℕ, true};
-ghost use Rattle.bohm_board.specs.Batches.{accesses_in, IsIn, position, width_at};
+ghost use Rattle.std.specs.Prelude.{◌≡◌, ◌≢◌, ◌+◌, ◌<◌, ◌≤◌, ℕ, length, true};
+ghost use Rattle.bohm_board.specs.Batches.{accesses_in, txns_of, IsIn, position, width_at};
 ghost use Rattle.bohm_board.specs.Closings.{batch_of_closed, status_in, IsFinished, IsUnfinished};
-ghost use Rattle.bohm_board.specs.Closings.{HasCell};
-ghost use Rattle.bohm_exec.specs.Answers.{batch_of_finished, IsFinishedBefore};
+ghost use Rattle.bohm_board.specs.Closings.{unfinished_in, HasCell};
+ghost use Rattle.bohm_exec.specs.Answers.{batch_of_finished, evaluations_of, IsFinishedBefore};
 ghost use Rattle.bohm_exec.specs.Asides.{IsSetAside};
+ghost use Rattle.bohm_exec.specs.Counts.{counted_on};
 ghost use Rattle.bohm_exec.specs.Handed.{WantsAllOf, AreFound, AreRightSlots, slot_of};
 
 use crate::aside::Aside;
@@ -44,6 +45,7 @@ fn put_cells(closed: &mut Closed, t: u32, evaluator: &Evaluator)
     requires right { AreRightSlots (batch_of_closed closed.old) t evaluator.now.scratch.now }
     ensures batch { batch_of_closed closed.new ≡ batch_of_closed closed.old }
     ensures statuses { (u : ℕ) → status_in closed.new u ≡ status_in closed.old u }
+    ensures left { unfinished_in closed.new ≡ unfinished_in closed.old }
     ensures all { (j : ℕ) →
         j < width_at (batch_of_closed closed.old) t → HasCell closed.new (slot_of t j) }
 {
@@ -60,6 +62,8 @@ fn evaluate_left(closed: &mut Closed, t: u32, evaluator: &mut Evaluator)
     requires before { IsFinishedBefore closed.old t }
     ensures batch { batch_of_closed closed.new ≡ batch_of_closed closed.old }
     ensures finished { IsFinished closed.new t }
+    ensures left { unfinished_in closed.new + 1 ≡ unfinished_in closed.old }
+    ensures counted { evaluator.new.evaluations ≡ counted_on evaluator.old.evaluations 1 }
     ensures others { (u : ℕ) →
         position (batch_of_closed closed.old) u ≢ position (batch_of_closed closed.old) t →
         status_in closed.new u ≡ status_in closed.old u }
@@ -89,15 +93,26 @@ fn are_empty(asides: &[Aside]) -> bool
 /// Evaluates, in log order, each position without an outcome. It allocates nothing. Each such
 /// position was deferred by a sweep, so that one of the `Aside`s contains it: if they are empty,
 /// the time grows only with their number, otherwise also with the number of positions.
-pub fn complete<'a>(mut closed: Closed<'a>, asides: &[Aside], scratch: &mut Scratch) -> Finished<'a>
+///
+/// The sweeps made this many evaluations, at most as many as they finished positions. Each position
+/// without an outcome is evaluated once, and no other.
+pub fn complete<'a>(
+    mut closed: Closed<'a>,
+    asides: &[Aside],
+    scratch: &mut Scratch,
+    evaluations: u64,
+) -> Finished<'a>
     requires aside { (t : ℕ) →
         IsIn (batch_of_closed closed) t → IsUnfinished closed t → IsSetAside asides.now t }
+    requires counted { evaluations + unfinished_in closed
+        ≤ length (txns_of (batch_of_closed closed)) }
     ensures batch { batch_of_finished result ≡ batch_of_closed closed.entry }
+    ensures counted { evaluations_of result ≡ evaluations + unfinished_in closed.entry }
 {
     if are_empty(asides) {
-        return Finished::new(closed);
+        return Finished::new(closed, evaluations);
     }
-    let mut evaluator = Evaluator::new(scratch);
+    let mut evaluator = Evaluator::new(scratch, evaluations);
     let (first, len) = (closed.batch().first(), closed.batch().len());
     for distance in 0..len {
         let t = first + distance;
@@ -105,5 +120,5 @@ pub fn complete<'a>(mut closed: Closed<'a>, asides: &[Aside], scratch: &mut Scra
             evaluate_left(&mut closed, t, &mut evaluator);
         }
     }
-    Finished::new(closed)
+    Finished::new(closed, evaluator.evaluations())
 }

@@ -5,6 +5,7 @@ ghost use Rattle.bohm_types.specs.Txn.{Txn};
 ghost use Rattle.bohm_place.specs.Plans.{keys_in};
 ghost use Rattle.bohm_board.specs.Batches.{accesses_in, IsIn, IsRightOutcome, txn_at};
 ghost use Rattle.bohm_board.specs.Inputs.{AreCellsOf};
+ghost use Rattle.bohm_exec.specs.Counts.{counted_on};
 ghost use Rattle.bohm_exec.specs.Handed.{AreFound, IsReady, AreRightSlots, slot_cell};
 ghost use Rattle.bohm_types.specs.Limits.{most_keys};
 
@@ -47,26 +48,35 @@ pub(crate) struct Evaluator<'a> {
     /// Whether the position is sure.
     pub(crate) sure: bool,
     scratch: &'a mut Scratch,
+    // How many evaluations were made, those before it among them: only `evaluate` adds to it.
+    evaluations: u64,
 }
 
 impl<'a> Evaluator<'a> {
-    pub(crate) fn new(scratch: &'a mut Scratch) -> Evaluator<'a> {
+    /// An evaluator, after this many evaluations.
+    pub(crate) fn new(scratch: &'a mut Scratch, evaluations: u64) -> Evaluator<'a>
+        ensures { result.evaluations ≡ evaluations }
+    {
         Evaluator {
             reads: [Cell::Absent; MOST_KEYS],
             earlier: [Cell::Absent; MOST_KEYS],
             sure: false,
             scratch,
+            evaluations,
         }
     }
 
     /// Evaluates the position over its cells. All cells that the batch makes must be there before
-    /// the call. After it `slot_cell` returns the cells of the position's slots.
+    /// the call. After it `slot_cell` returns the cells of the position's slots. This is the only
+    /// way to evaluate a position, and it counts.
     pub(crate) fn evaluate(&mut self, batch: &Batch, t: u32) -> Outcome
         requires inside { IsIn batch.now t }
         requires ready { IsReady batch.now t self.old }
         ensures outcome { IsRightOutcome batch.now t result }
         ensures cells { AreRightSlots batch.now t self.new.scratch.now }
+        ensures count { self.new.evaluations ≡ counted_on self.old.evaluations 1 }
     {
+        self.evaluations = self.evaluations.saturating_add(1);
         let read_keys = keys_at(batch, t, DeclaredSet::Reads);
         let written_keys = keys_at(batch, t, DeclaredSet::Writes);
         let reads = &mut self.reads[..read_keys.len()];
@@ -76,6 +86,13 @@ impl<'a> Evaluator<'a> {
             add_base(batch, t, DeclaredSet::Writes, &written_keys, earlier);
         }
         eval(&batch.txn(t), reads, earlier, self.scratch)
+    }
+
+    /// How many evaluations were made, those before it among them.
+    pub(crate) fn evaluations(&self) -> u64
+        ensures { result ≡ self.now.evaluations }
+    {
+        self.evaluations
     }
 
     /// The cell of a slot of the position that was evaluated last: for a declared write, the key's

@@ -1,6 +1,6 @@
 //! The results of a finished batch.
 
-ghost use Rattle.std.specs.Prelude.{◌≡◌, ◌<◌, ℕ, length};
+ghost use Rattle.std.specs.Prelude.{◌≡◌, ◌<◌, ◌≤◌, ℕ, length};
 ghost use Rattle.bohm_board.specs.Batches.{IsIn, first_of, txns_of};
 ghost use Rattle.bohm_board.specs.Closings.{batch_of_closed, IsFinished};
 
@@ -13,21 +13,29 @@ use bohm_types::Cell;
 #[derive(Drop)]
 pub struct Finished<'a> {
     closed: Closed<'a>,
+    evaluations: u64,
+    ghost once: { evaluations ≤ length (txns_of (batch_of_closed closed)) },
     ghost whole: { (t : ℕ) → IsIn (batch_of_closed closed) t → IsFinished closed t },
 }
 
 impl<'a> Finished<'a> {
     ghost use Rattle.bohm_board.specs.Batches.{IsSlot, IsRightCell};
-    ghost use Rattle.bohm_exec.specs.Answers.{batch_of_finished};
+    ghost use Rattle.bohm_exec.specs.Answers.{batch_of_finished, evaluations_of};
     ghost use Rattle.bohm_exec.specs.Moments.{writes_in_txn, shows_in_txn, IsSerialOutcome};
     ghost use Rattle.bohm_exec.specs.Moments.{IsSerialCell, IsSerialShow};
 
     /// The results in a closed board whose positions all have outcomes.
-    pub(crate) fn new(closed: Closed<'a>) -> Finished<'a>
-        requires { (t : ℕ) → IsIn (batch_of_closed closed) t → IsFinished closed t }
-        ensures { batch_of_finished result ≡ batch_of_closed closed.entry }
+    pub(crate) fn new(closed: Closed<'a>, evaluations: u64) -> Finished<'a>
+        requires once { evaluations ≤ length (txns_of (batch_of_closed closed)) }
+        requires whole { (t : ℕ) → IsIn (batch_of_closed closed) t → IsFinished closed t }
+        ensures batch { batch_of_finished result ≡ batch_of_closed closed.entry }
+        ensures closed { result.closed ≡ closed.entry }
+        ensures evaluations { evaluations_of result ≡ evaluations }
     {
-        Finished { closed }
+        Finished {
+            closed,
+            evaluations,
+        }
     }
 
     /// The timestamp of the first transaction.
@@ -42,6 +50,15 @@ impl<'a> Finished<'a> {
         ensures { result ≡ length (txns_of (batch_of_finished self.now)) }
     {
         self.closed.batch().len()
+    }
+
+    /// How many evaluations it took, by all workers together: not more than there are transactions.
+    /// As each has its results, each was evaluated once.
+    pub fn evaluations(&self) -> u64
+        ensures is { result ≡ evaluations_of self.now }
+        ensures once { result ≤ length (txns_of (batch_of_finished self.now)) }
+    {
+        self.evaluations
     }
 
     pub fn batch(&self) -> &Batch<'a>

@@ -49,6 +49,7 @@ impl<G> Sweeper<'_, '_, G> {
         requires pass { IsPassFor self.old.stepper t }
         ensures looks { Looks self.old.stepper self.new.stepper }
         ensures stack { self.new.stack.now ≡ self.old.stack.now }
+        ensures evaluations { self.new.evaluator.evaluations ≡ self.old.evaluator.evaluations }
         ensures missing { IfSome result (IsMissing self.old.stepper t) }
         ensures known { IsNone result →
             KnowsWanted (batch_on self.old.stepper) (seen_by self.new.stepper) t }

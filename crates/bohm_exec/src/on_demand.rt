@@ -3,6 +3,7 @@
 ghost use Rattle.std.specs.Prelude.{◌≡◌, ◌∷◌, [], ◌++◌, MatchOption};
 ghost use Rattle.bohm_board.specs.Batches.{Leads};
 ghost use Rattle.bohm_board.specs.Passes.{IsDone, Keeps};
+ghost use Rattle.bohm_exec.specs.Counts.{AreCounted};
 ghost use Rattle.bohm_exec.specs.Steps.{IsEmptyFor, IsFree, IsFreeFor, IsSame, batch_on, seen_by};
 
 use crate::gate::Gate;
@@ -18,6 +19,8 @@ impl<G: Gate> Sweeper<'_, '_, G> {
         ensures same { IsSame self.old.stepper self.new.stepper }
         ensures free { IsFree self.old.stepper.board.now self.new.stepper.pass.now }
         ensures stack { IsEmptyFor (batch_on self.old.stepper) self.new.stack.now }
+        ensures counted { AreCounted self.old.evaluator.evaluations (seen_by self.old.stepper)
+            self.new.evaluator.evaluations (seen_by self.new.stepper) }
         ensures keeps { Keeps (seen_by self.old.stepper) (seen_by self.new.stepper) }
         ensures done { MatchOption result
             (IsDone (batch_on self.old.stepper) (seen_by self.new.stepper) start)

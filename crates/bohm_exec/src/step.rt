@@ -1,7 +1,8 @@
 //! One step of a sweeper on one position.
 
 ghost use Rattle.std.specs.Prelude.{◌≡◌};
-ghost use Rattle.bohm_exec.specs.Steps.{IsFreeFor, Steps};
+ghost use Rattle.bohm_exec.specs.Counts.{AreCounted};
+ghost use Rattle.bohm_exec.specs.Steps.{IsFreeFor, Steps, seen_by};
 
 use crate::gate::{Gate, Point};
 use crate::sweeper::Sweeper;
@@ -24,6 +25,8 @@ impl<G: Gate> Sweeper<'_, '_, G> {
         requires { IsFreeFor self.old.stepper t }
         ensures step_on { Steps self.old.stepper t result self.new.stepper }
         ensures stack { self.new.stack.now ≡ self.old.stack.now }
+        ensures counted { AreCounted self.old.evaluator.evaluations (seen_by self.old.stepper)
+            self.new.evaluator.evaluations (seen_by self.new.stepper) }
     {
         if let Some(u) = self.find_wanted(t) {
             return Step::Needs(u);
@@ -46,6 +49,8 @@ impl<G: Gate> Sweeper<'_, '_, G> {
         requires { IsFreeFor self.old.stepper t }
         ensures step_on { Steps self.old.stepper t result self.new.stepper }
         ensures stack { self.new.stack.now ≡ self.old.stack.now }
+        ensures counted { AreCounted self.old.evaluator.evaluations (seen_by self.old.stepper)
+            self.new.evaluator.evaluations (seen_by self.new.stepper) }
     {
         match self.stepper.board.status(self.stepper.pass, t) {
             Status::Open => self.attempt(t),

@@ -24,17 +24,19 @@ impl<'a, 'b, G> Sweeper<'a, 'b, G> {
         stack: &'a mut Vec<u32>,
         gate: &'a G,
         scratch: &'a mut Scratch,
+        evaluations: u64,
     ) -> Sweeper<'a, 'b, G>
         ensures board { result.stepper.board.now ≡ board.now }
         ensures pass { result.stepper.pass.now ≡ pass.old }
         ensures same_pass { result.stepper.pass.ghost_name ≡ pass.entry.ghost_name }
         ensures stack { result.stack.now ≡ stack.old }
+        ensures evaluations { result.evaluator.evaluations ≡ evaluations }
     {
         Sweeper {
             stepper: Stepper { board, pass },
             stack,
             gate,
-            evaluator: Evaluator::new(scratch),
+            evaluator: Evaluator::new(scratch, evaluations),
         }
     }
 }

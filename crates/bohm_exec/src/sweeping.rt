@@ -4,6 +4,7 @@ ghost use Rattle.std.specs.Prelude.{◌≡◌, All, IfOk, OnErr};
 ghost use Rattle.bohm_board.specs.Batches.{IsIn};
 ghost use Rattle.bohm_board.specs.Passes.{Keeps, batch_of, view};
 ghost use Rattle.bohm_exec.specs.Asides.{IsAccountedFor, IsLedToBusy, IsPickedFrom, positions_in};
+ghost use Rattle.bohm_exec.specs.Counts.{AreCounted};
 ghost use Rattle.bohm_exec.specs.Steps.{IsFree};
 
 use crate::aside::Aside;
@@ -18,6 +19,8 @@ use std::alloc::Global;
 /// Evaluates the positions of the share, in its order, each after all positions that it leads to.
 /// If another pass holds one of these, the position is deferred. An error can occur only before the
 /// first step: the work stack has room for the batch, and the result for the share.
+///
+/// The number of evaluations is added to `evaluations`: as many as the pass finished positions.
 pub fn sweep<G: Gate>(
     alloc: Global,
     board: &Board,
@@ -25,10 +28,12 @@ pub fn sweep<G: Gate>(
     share: &[u32],
     gate: &G,
     scratch: &mut Scratch,
+    evaluations: &mut u64,
 ) -> Result<Aside, NoMemory>
     requires free { IsFree board.now pass.old }
     requires inside { All (IsIn (batch_of board.now)) share.now }
     ensures free { IsFree board.now pass.new }
+    ensures counted { AreCounted evaluations.old (view pass.old) evaluations.new (view pass.new) }
     ensures refused { OnErr result (view pass.new ≡ view pass.old) }
     ensures keeps { Keeps (view pass.old) (view pass.new) }
     ensures each { IfOk result (λ aside.
@@ -38,7 +43,7 @@ pub fn sweep<G: Gate>(
 {
     let mut stack = Vec::with_capacity(alloc, board.batch().len() as usize)?;
     let mut pairs = Vec::with_capacity(alloc, share.len())?;
-    let mut sweeper = Sweeper::new(board, pass, &mut stack, gate, scratch);
+    let mut sweeper = Sweeper::new(board, pass, &mut stack, gate, scratch, *evaluations);
     for start in share {
         if let Some(busy) = sweeper.pursue(*start) {
             let Ok(()) = pairs.push((*start, busy)) else {
@@ -51,8 +56,9 @@ pub fn sweep<G: Gate>(
         stepper,
         stack: _,
         gate: _,
-        evaluator: _,
+        evaluator,
     } = sweeper;
+    *evaluations = evaluator.evaluations();
     let Stepper {
         board: _,
         pass: _pass,

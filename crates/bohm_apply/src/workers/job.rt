@@ -3,6 +3,7 @@
 ghost use Rattle.std.specs.Prelude.{◌≡◌, ◌<◌, IfOk};
 ghost use Rattle.bohm_board.specs.Passes.{IsPassOf, HoldsNothing, batch_of, view};
 ghost use Rattle.bohm_exec.specs.Asides.{positions_in};
+ghost use Rattle.bohm_exec.specs.Counts.{AreCounted};
 ghost use Rattle.bohm_apply.specs.Sweeps.{IsShareSwept, IsReady, IsSwept};
 
 use bohm_board::{Board, Pass};
@@ -32,6 +33,8 @@ pub(crate) struct Job {
 pub(crate) struct Swept {
     pub(crate) pass: Pass,
     pub(crate) scratch: Scratch,
+    /// How many evaluations it made.
+    pub(crate) evaluations: u64,
     pub(crate) aside: Result<Aside, NoMemory>,
 }
 
@@ -43,7 +46,8 @@ fn positions(alloc: Global, aside: &Aside) -> Result<Vec<u32>, NoMemory>
     Ok(positions)
 }
 
-/// Sweeps the share of a worker, and then once more the positions that were deferred.
+/// Sweeps the share of a worker, and then once more the positions that were deferred. Their
+/// evaluations are added to `evaluations`.
 pub(crate) fn sweep_share<G: Gate>(
     alloc: Global,
     board: &Board,
@@ -51,6 +55,7 @@ pub(crate) fn sweep_share<G: Gate>(
     worker: Worker,
     gate: &G,
     scratch: &mut Scratch,
+    evaluations: &mut u64,
 ) -> Result<Aside, NoMemory>
     requires own { IsPassOf board.now pass.old }
     requires free { HoldsNothing (view pass.old) }
@@ -58,6 +63,7 @@ pub(crate) fn sweep_share<G: Gate>(
     ensures own { IsPassOf board.now pass.new }
     ensures free { HoldsNothing (view pass.new) }
     ensures share { IfOk result (IsShareSwept (batch_of board.now) worker (view pass.new)) }
+    ensures counted { AreCounted evaluations.old (view pass.old) evaluations.new (view pass.new) }
 {
     let batch = board.batch();
     let share = share_of(
@@ -67,12 +73,12 @@ pub(crate) fn sweep_share<G: Gate>(
         worker.number,
         worker.count,
     )?;
-    let aside = sweep(alloc, board, pass, &share, gate, scratch)?;
+    let aside = sweep(alloc, board, pass, &share, gate, scratch, evaluations)?;
     if aside.pairs().is_empty() {
         return Ok(aside);
     }
     let again = positions(alloc, &aside)?;
-    sweep(alloc, board, pass, &again, gate, scratch)
+    sweep(alloc, board, pass, &again, gate, scratch, evaluations)
 }
 
 /// Carries out a job.
@@ -85,10 +91,20 @@ pub(crate) fn work<G: Gate>(alloc: Global, board: &Board, job: Job, gate: &G) ->
         mut pass,
         mut scratch,
     } = job;
-    let aside = sweep_share(alloc, board, &mut pass, worker, gate, &mut scratch);
+    let mut evaluations = 0u64;
+    let aside = sweep_share(
+        alloc,
+        board,
+        &mut pass,
+        worker,
+        gate,
+        &mut scratch,
+        &mut evaluations,
+    );
     Swept {
         pass,
         scratch,
+        evaluations,
         aside,
     }
 }

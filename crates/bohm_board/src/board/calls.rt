@@ -1,14 +1,15 @@
 //! The calls of a board. None blocks, and only `open` allocates.
 
-ghost use Rattle.std.specs.Prelude.{◌≡◌, ℕ, IfOk, IsNone, IfSome};
-ghost use Rattle.bohm_board.specs.Batches.{rights_of, IsIn, IsSlot, IsRightCell, IsRightOutcome};
+ghost use Rattle.std.specs.Prelude.{◌≡◌, ◌+◌, ◌≤◌, ℕ, length, IfOk, IsNone, IfSome};
+ghost use Rattle.bohm_board.specs.Batches.{rights_of, txns_of, IsIn, IsSlot, IsRightCell, IsRightOutcome};
 ghost use Rattle.bohm_board.specs.Closings.{IsFinished, IsUntaken, HasCell, IsLeft};
-ghost use Rattle.bohm_board.specs.Closings.{batch_of_closed};
+ghost use Rattle.bohm_board.specs.Closings.{batch_of_closed, unfinished_in};
 ghost use Rattle.bohm_board.specs.declared.slot.Slot.{Slot};
 ghost use Rattle.bohm_board.specs.Passes.{IsPassOf, HoldsNothing, Holds, IsDone, IsFilled};
 ghost use Rattle.bohm_board.specs.Passes.{KnowsWanted, HasFilledAll, held_timestamp};
 ghost use Rattle.bohm_board.specs.Passes.{batch_of, view};
-ghost use Rattle.bohm_board.specs.Views.{new_view, after_status, after_claim, after_join};
+ghost use Rattle.bohm_board.specs.Views.{new_view, after_status, after_claim};
+ghost use Rattle.bohm_board.specs.Views.{after_split, after_join};
 ghost use Rattle.bohm_board.specs.Views.{after_look, after_fill, after_finish, Recalls, IsUnseen};
 ghost use Rattle.bohm_board.specs.Encoding.{status_of_claim};
 
@@ -59,12 +60,13 @@ impl<'a> Board<'a> {
         &self.batch
     }
 
-    /// Splits a pass into two passes, each of which knows what it knew.
+    /// Splits a pass into two passes, each of which knows what it knew. The first keeps the
+    /// positions that it finished.
     pub fn split(&self, pass: Pass) -> (Pass, Pass)
         requires own { IsPassOf self.now pass }
         requires free { HoldsNothing (view pass) }
         ensures own { IsPassOf self.now result.0 × IsPassOf self.now result.1 }
-        ensures views { (view result.0 ≡ view pass) × (view result.1 ≡ view pass) }
+        ensures views { (view result.0 ≡ view pass) × (view result.1 ≡ after_split (view pass)) }
     {
         let Pass {
             mut seat,
@@ -206,13 +208,16 @@ impl<'a> Board<'a> {
     }
 
     /// Closes the board. Its words show a state of the core, which therefore meets the board law.
-    /// Positions that the pass saw Done have an outcome. The time grows with the number of words.
+    /// Positions that the pass saw Done have an outcome, and those that it finished are distinct.
+    /// The time grows with the number of words.
     pub fn close(self, pass: Pass) -> Closed<'a>
         requires own { IsPassOf self pass }
         requires free { HoldsNothing (view pass) }
         ensures batch { batch_of_closed result ≡ batch_of self.entry }
         ensures state { IsLeft result }
         ensures done { (t : ℕ) → IsDone (batch_of self.entry) (view pass) t → IsFinished result t }
+        ensures finished { let all = length (txns_of (batch_of self.entry)) in
+            length (view pass).finished + unfinished_in result ≤ all }
         ensures untaken { (s : Slot) → IsSlot (batch_of self.entry) s → IsUntaken result s.txn
             → ¬ HasCell result s }
     {

@@ -1,6 +1,6 @@
 //! The seven kinds of atomic steps, and how views are split and joined.
 
-ghost use Rattle.bohm_board.specs.Views.{spent_view, after_join};
+ghost use Rattle.bohm_board.specs.Views.{spent_view, after_split, after_join};
 ghost use Rattle.bohm_board.specs.Steps.{MeetsStatus, MeetsClaim, MeetsFinish, MeetsPresence};
 ghost use Rattle.bohm_board.specs.Steps.{MeetsValue, MeetsStore, MeetsFill};
 
@@ -56,13 +56,14 @@ impl Play<(), View> for FillPresence {
     ghost then = { MeetsFill };
 }
 
-/// Both new passes know what the split pass knew.
+/// Both new passes know what the split pass knew, and the first keeps the positions that it
+/// finished.
 pub(crate) struct Share;
 
 impl Split<View> for Share {
     ghost left = { λ v. v };
 
-    ghost right = { λ v. v };
+    ghost right = { after_split };
 }
 
 /// The joined pass knows what the two passes knew.

@@ -1,6 +1,6 @@
 //! Reading and completing a closed board. No call allocates.
 
-ghost use Rattle.std.specs.Prelude.{◌≡◌, ◌≢◌, ◌<◌, ◌↔◌, ℕ, IsSome, IfSome};
+ghost use Rattle.std.specs.Prelude.{◌≡◌, ◌≢◌, ◌+◌, ◌<◌, ◌↔◌, ℕ, IsSome, IfSome};
 ghost use Rattle.bohm_board.specs.declared.slot.Slot.{Slot};
 ghost use Rattle.bohm_board.specs.Batches.{position, number, width_at, IsIn, IsSlot};
 ghost use Rattle.bohm_board.specs.Batches.{IsRightCell, IsRightOutcome};
@@ -73,6 +73,7 @@ impl<'a> Closed<'a> {
             → number (batch_of_closed self.old) s ≢ number (batch_of_closed self.old) slot
             → presence_in self.new s ≡ presence_in self.old s }
         ensures statuses { (t : ℕ) → status_in self.new t ≡ status_in self.old t }
+        ensures left { unfinished_in self.new ≡ unfinished_in self.old }
     {
         let number = self.batch.number(slot);
         let (presence, value) = slot_words(cell);
@@ -93,6 +94,7 @@ impl<'a> Closed<'a> {
             → position (batch_of_closed self.old) u ≢ position (batch_of_closed self.old) t
             → status_in self.new u ≡ status_in self.old u }
         ensures cells { (s : Slot) → presence_in self.new s ≡ presence_in self.old s }
+        ensures left { unfinished_in self.new + 1 ≡ unfinished_in self.old }
     {
         let position = self.batch.position(t);
         self.columns.statuses[position] = outcome_word(outcome);

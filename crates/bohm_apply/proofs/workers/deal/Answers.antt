@@ -16,9 +16,10 @@ loop-number-preserved c =
     rw c.in_ok-push.ensures.items (record {
       own = own.0;
       free = rw views.0 was.free;
+      unused = rw views.0 was.unused;
       scratches = omega (arith, was.scratches, c.take.ensures.rest);
       count = omega (arith, length-append jobs (job ∷ []), was.count);
-      ready = All-push (IsReady c.args.board.now) jobs job was.ready (record { own = own.1; free = rw views.1 was.free; worker = c.loop-number-test.true });
+      ready = All-push (IsReady c.args.board.now) jobs job was.ready (record { own = own.1; free = rw views.1 was.free; unused = rw views.1 refl; worker = c.loop-number-test.true });
       workers = λ w d low. each_pushed (λ v (j : Job). j.worker ≡ record { number = v; count = c.args.workers }) jobs job
           (λ v e l. was.workers v e (omega (arith, l, was.count))) (rw was.count refl) w d (omega (arith, low, was.count));
       pool = c.take.ensures.count ∙ was.pool;

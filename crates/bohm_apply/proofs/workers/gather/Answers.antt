@@ -2,6 +2,7 @@ use Rattle.std.proofs.Common.{◌≡◌, ◌<◌, ◌++◌, ◌∷◌, [], List,
 use Rattle.std.specs.Vec.Iter.{into_iter_items}
 use Rattle.std.proofs.lemmas.List.{length_push}
 use Rattle.bohm_board.specs.Passes.{batch_of, view}
+use Rattle.bohm_exec.proofs.ForCallers.{counted_whole}
 use Rattle.bohm_apply.specs.declared.workers.job.Swept.{Swept}
 use Rattle.bohm_apply.specs.declared.workers.job.Worker.{Worker}
 use Rattle.bohm_apply.specs.Sweeps.{IsShareSwept, IsSwept}
@@ -29,6 +30,16 @@ loop-one-preserved c =
     record {
       own = c.join-pass.ensures.own;
       free = rw c.join-pass.ensures.view was.free;
+      counted = rw c.join-pass.ensures.view (omega (
+        arith,
+        was.counted,
+        this.counted,
+        counted_whole (length (view at.pass).finished),
+        counted_whole (length (view x.pass).finished),
+        counted_whole (length ((view at.pass).finished ++ (view x.pass).finished)),
+        c.saturating_add-evaluations.ensures,
+        length-append (view at.pass).finished (view x.pass).finished,
+      ));
       items = append_assoc at.yielded (x ∷ []) rest ∙ whole;
       count = omega (arith, was.count, gone, short);
       swept = rw (c.in_ok-push.ensures.items, c.join-pass.ensures.view, length_push at.yielded x)

@@ -12,7 +12,7 @@ below : (c : After-slot_cell) → c.loop-index.index < width_at (batch_of_closed
 below c = subst (λ (n : ℕ). c.loop-index.index < n) (c.width-width.ensures ∙ ap (λ (b : Batch). width_at b c.args.t) c.batch.ensures) c.loop-index-test.true
 
 pub loop-index-init : goal.loop-index-init
-loop-index-init c = record { batch = refl; statuses = λ u. refl; all = λ j l. absurd (omega arith) }
+loop-index-init c = record { batch = refl; statuses = λ u. refl; left = refl; all = λ j l. absurd (omega arith) }
 
 pub set_cell-requires-clause-inside : goal.set_cell-requires-clause-inside
 set_cell-requires-clause-inside c =
@@ -38,6 +38,7 @@ loop-index-preserved c =
     let t = c.args.t in
     let inv = c.loop-index.invariant in record {
       batch = c.set_cell.ensures.batch ∙ inv.batch;
+      left = c.set_cell.ensures.left ∙ inv.left;
       statuses = λ u. c.set_cell.ensures.statuses u ∙ inv.statuses u;
       all = λ j l. dite (ℕ_discrete j n)
           (λ e. subst (λ (z : ℕ). HasCell new (slot_of t z)) (sym e) c.set_cell.ensures.filled)

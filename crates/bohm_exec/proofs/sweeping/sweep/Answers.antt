@@ -1,4 +1,4 @@
-use Rattle.std.proofs.Common.{rules, arith, ◌≡◌, ℕ, ◌∷◌, [], ◌++◌, get_or, take, ap, ◌∙◌, subst, inl}
+use Rattle.std.proofs.Common.{rules, arith, refl, ◌≡◌, ℕ, ◌∷◌, [], ◌++◌, get_or, take, ap, ◌∙◌, subst, inl}
 use Rattle.std.specs.Prelude.{Vec}
 use Rattle.std.specs.Borrow.{Bor}
 use Rattle.std.specs.Global.{Global}
@@ -11,6 +11,7 @@ use Rattle.bohm_board.proofs.ForCallers.{keeps_then}
 use Rattle.bohm_exec.specs.Asides.{IsAccountedFor, positions_in}
 use Rattle.bohm_exec.specs.Steps.{IsEmptyFor, IsFree}
 use Rattle.bohm_exec.proofs.Accounts.{accounted_later, accounted_pushed, accounted_here, accounted_as, next, busy_more, picked_skip, picked_pair}
+use Rattle.bohm_exec.proofs.Counting.{counted_same, counted_then}
 use Rattle.bohm_exec.proofs.sweeping.sweep.Goals as goal
 use Rattle.bohm_exec.proofs.sweeping.sweep.Goals.{in-Some+in-Ok, in_default}
 
@@ -30,6 +31,7 @@ loop-start-preserved g c =
     let stack = subst (λ (z : Board). IsEmptyFor (batch_of z) c.pursue.new.self.stack.now) inv.board c.pursue.ensures.stack in
     let board = ap (λ (z : Bor Board). z.now) c.pursue.ensures.same.board ∙ inv.board in
     let pass = c.pursue.ensures.same.pass ∙ inv.pass in
+    let counted = counted_then _ _ _ (view c.args.pass.now) old new inv.counted c.pursue.ensures.counted in
     let front = take_more share n 0 c.loop-start-test.true in
     elim c.match-pursue.branch [
       | in-Some+in-Ok w ↦
@@ -47,6 +49,7 @@ loop-start-preserved g c =
             space = rw w.pairs-is (omega (arith, inv.space, wide));
             count = rw w.pairs-is (omega (arith, inv.count, long));
             keeps = all;
+            counted = counted;
             leads = rw grown (All-push (λ (q : ℕ × ℕ). Leads b q.0 q.1) pairs p inv.leads leads);
             busy = rw grown (busy_more (view c.args.pass.now).busy old.busy new.busy pairs p inv.busy w.in-Some.ensures.busy);
             each = rw grown (next (IsAccountedFor b new (pairs ++ p ∷ [])) share n
@@ -62,6 +65,7 @@ loop-start-preserved g c =
         space = rw w.pairs-is inv.space;
         count = rw w.pairs-is (omega (arith, inv.count));
         keeps = all;
+        counted = counted;
         leads = rw w.pairs-is inv.leads;
         busy = rw w.pairs-is (w.in_default.ensures.busy ∙ inv.busy);
         each = rw w.pairs-is (next (IsAccountedFor b new pairs) share n (λ i l. accounted_later b old new pairs (get_or share i 0) keeps (inv.each i l))
@@ -69,6 +73,12 @@ loop-start-preserved g c =
         order = rw w.pairs-is (rw front (picked_skip (positions_in pairs) (take n share) start inv.order));
       }
     ]
+
+pub returns-in_err-stack-clause-counted : goal.returns-in_err-stack-clause-counted
+returns-in_err-stack-clause-counted g c = counted_same _ _ _ _ refl refl
+
+pub returns-in_err-pairs-clause-counted : goal.returns-in_err-pairs-clause-counted
+returns-in_err-pairs-clause-counted g c = counted_same _ _ _ _ refl refl
 
 pub returns-clause-each : goal.returns-clause-each
 returns-clause-each g c =

@@ -4,6 +4,7 @@ use Rattle.std.specs.Vec.{vec_capacity}
 use Rattle.bohm_board.specs.Batches.{Leads}
 use Rattle.bohm_board.specs.Passes.{Keeps, batch_of, view}
 use Rattle.bohm_exec.specs.Asides.{IsAccountedFor, IsPickedFrom, positions_in, busy_in}
+use Rattle.bohm_exec.specs.Counts.{AreCounted}
 use Rattle.bohm_exec.specs.Steps.{IsEmptyFor, IsFree}
 use Rattle.bohm_exec.proofs.sweeping.sweep.Given as goal
 
@@ -16,6 +17,7 @@ invariant-loop-start g l = record {
   space : length l.share ≤ vec_capacity l.pairs;
   count : vec_len l.pairs ≤ l.start-index;
   keeps : Keeps (view l.fn.pass) (view l.sweeper.stepper.pass.now);
+  counted : AreCounted l.fn.evaluations (view l.fn.pass) l.sweeper.evaluator.evaluations (view l.sweeper.stepper.pass.now);
   leads : All (λ (p : ℕ × ℕ). Leads (batch_of l.fn.board) p.0 p.1) l.pairs.items;
   busy : (view l.sweeper.stepper.pass.now).busy ≡ (view l.fn.pass).busy ++ busy_in l.pairs.items;
   each : (i : ℕ) → i < l.start-index → IsAccountedFor (batch_of l.fn.board) (view l.sweeper.stepper.pass.now) l.pairs.items (get_or l.share i 0);

@@ -10,7 +10,8 @@ use Rattle.bohm_place.specs.Plans.{Planned}
 use Rattle.bohm_place.specs.CutLogs.{cutting_of}
 use Rattle.bohm_place.specs.Cuttings.{ahead}
 use Rattle.bohm_apply.specs.Runs.{IsApplied}
-use Rattle.bohm_apply.proofs.Going.{at_rest}
+use Rattle.bohm_log.proofs.ForCallers.{on_err}
+use Rattle.bohm_apply.proofs.Going.{at_rest, stayed}
 use Rattle.bohm_apply.proofs.Swept.{nothing_left}
 use Rattle.bohm_apply.proofs.Walks.{all_ahead, inside, plan_there, walked_on}
 use Rattle.bohm_apply.proofs.executing.Executor.run_planned.Goals.{In-None}
@@ -134,6 +135,20 @@ returns-clause-applied g c =
     let at = c.loop-plan in
     subst (λ (txns : List Txn). IsApplied c.args.history.now at.history txns c.args.self.now.keep
     (replies (past c.args.history.now c.args.history.now.top) txns)) (all_run g (goal.at.returns-clause-applied g c).In-None) at.invariant.applied
+
+pub returns-in_err-run_batch-clause-stopped : goal.returns-in_err-run_batch-clause-stopped
+returns-in_err-run_batch-clause-stopped g c =
+    let at = c.loop-plan in
+    let was = c.args.history.now in
+    let log = (cutting_of c.args.log).log in
+    let told = replies (past was was.top) (take at.start log) in
+    let refused = c.in_err-run_batch.ensures in
+    on_err c.from_residual.result (record {
+      run = at.start;
+      batches = (at.place, at.invariant.start);
+      applied = stayed was at.history c.run_batch.new.history (take at.start log) c.args.self.now.keep told refused.same at.invariant.applied;
+      told = rw refused.unanswered at.invariant.answered;
+    })
 
 pub returns-clause-answered : goal.returns-clause-answered
 returns-clause-answered g c =

@@ -4,6 +4,11 @@ use Rattle.bohm_store.specs.Versions.{past, versions, versions_to}
 use Rattle.bohm_apply.proofs.Going.{taken_back, trimmed_on}
 use Rattle.bohm_apply.proofs.serial_executor.SerialExecutor.run_batch.Goals as goal
 
+pub rewind-requires-clause-there : goal.rewind-requires-clause-there
+rewind-requires-clause-there c =
+    let (n, a, ran, early) = c.in-Err.ensures.some in
+    omega (arith, ran.top, c.top-top.ensures.top)
+
 pub returns-in-Err-clause-same : goal.returns-in-Err-clause-same
 returns-in-Err-clause-same c =
     let was = c.args.history.now in

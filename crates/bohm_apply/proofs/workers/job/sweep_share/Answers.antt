@@ -4,6 +4,7 @@ use Rattle.bohm_board.specs.declared.batch.Batch.{Batch}
 use Rattle.bohm_board.specs.Batches.{first_of, txns_of}
 use Rattle.bohm_board.specs.Passes.{batch_of, view}
 use Rattle.bohm_exec.specs.Asides.{IsAccountedFor, positions_in}
+use Rattle.bohm_exec.proofs.ForCallers.{counted_then}
 use Rattle.bohm_apply.specs.Sweeps.{IsShareSwept}
 use Rattle.bohm_apply.proofs.Swept.{inside, inside_again, swept_once, swept_again}
 use Rattle.bohm_apply.proofs.workers.job.sweep_share.Goals as goal
@@ -47,3 +48,7 @@ returns-clause-share g c =
     let again = let h = c.sweep-2.ensures.each in rw (c.deref-2.ensures.value, c.in_ok-again.ensures) at h in
     IfOk-weaker c.sweep-2.result (λ left. All (IsAccountedFor b new left) (positions_in aside)) (IsShareSwept b c.args.worker new)
     (λ left all. swept_again b c.args.worker old new aside left c.sweep-2.ensures.keeps once all) again
+
+pub returns-clause-counted : goal.returns-clause-counted
+returns-clause-counted g c = counted_then _ _ _ (view c.args.pass.now) (view c.sweep.new.pass) (view c.sweep-2.new.pass)
+    c.in_ok-aside.ensures.counted c.sweep-2.ensures.counted

@@ -5,6 +5,7 @@ use Rattle.bohm_board.specs.Encoding.{progress_word, presence_word}
 use Rattle.bohm_board.proofs.ClosedWords.{IsEnd, settles, left_sound, open_word}
 use Rattle.bohm_board.proofs.SlotPlaces.{outcomes_long}
 use Rattle.bohm_board.proofs.StepEvents.{two_at_least}
+use Rattle.bohm_board.proofs.FinishedOnce.{finished_few}
 use Rattle.bohm_board.proofs.EventRuns.{reached_lawful}
 use Rattle.bohm_board.proofs.board.Board.close.Goals as goal
 use Rattle.bohm_board.proofs.board.Board.close.Goals.{After-copy_words-3}
@@ -79,3 +80,8 @@ returns-clause-untaken c s is untaken cell =
     let e = end (goal.at.returns-clause-untaken c).After-copy_words-3 in
     let open_there = open_word (e.state.positions s.txn) (sym (e.shown.positions s.txn is.txn) ∙ untaken) in
     cell (e.shown.presences s is ∙ ap presence_word ((reached_lawful c.args.self.batch e.state e.reached).sound.untouched s open_there))
+
+pub returns-clause-finished : goal.returns-clause-finished
+returns-clause-finished c =
+    let e = end (goal.at.returns-clause-finished c).After-copy_words-3 in
+    finished_few c.args.self.batch _ e.state c.args.pass.seat.id (view c.args.pass) e.shown e.reached e.mine

@@ -1,7 +1,7 @@
 use Rattle.std.proofs.Common.{arith, ap, ◌∙◌}
 use Rattle.bohm_board.specs.Steps.{SeatState}
 use Rattle.bohm_board.proofs.Refinement.{splits}
-use Rattle.bohm_board.proofs.PassInvariant.{kept_along}
+use Rattle.bohm_board.proofs.PassInvariant.{kept_along, kept_split}
 use Rattle.bohm_board.proofs.SlotPlaces.{outcomes_long}
 use Rattle.bohm_board.proofs.board.Board.split.Goals as goal
 
@@ -21,5 +21,5 @@ invariant_of-left c = record {
 pub invariant_of-right : goal.invariant_of-right
 invariant_of-right c = record {
   bare = ap (λ (m : SeatState). m.1) c.split_seat-other.ensures.4;
-  fits = kept_along _ _ _ _ (ap (λ (m : SeatState). m.0) c.split_seat-other.ensures.4) c.args.pass.fits;
+  fits = kept_along _ _ _ _ (ap (λ (m : SeatState). m.0) c.split_seat-other.ensures.4) (kept_split c.args.pass.seat.me.0 _ _ c.args.pass.fits);
 }

@@ -1,6 +1,10 @@
-use Rattle.std.proofs.Common.{ℕ, ◌≢◌, ◌<◌, get_or, sym, ◌∙◌, subst, set, length-set}
+use Rattle.std.proofs.Common.{ℕ, ◌≢◌, ◌<◌, ◌≤◌, arith, get_or, sym, ◌∙◌, subst, set, length-set}
 use Rattle.bohm_board.specs.Shown.{AreSound, words_of}
-use Rattle.bohm_board.specs.Batches.{number, width_at}
+use Rattle.bohm_board.specs.Batches.{number, position, width_at}
+use Rattle.bohm_board.proofs.FinishedOnce.{one_less}
+use Rattle.bohm_board.proofs.SlotNumbers.{position_inside}
+use Rattle.bohm_board.proofs.SlotPlaces.{outcomes_long}
+use Rattle.bohm_board.proofs.StepEvents.{two_at_least}
 use Rattle.bohm_board.proofs.Inputs.{short_outcome}
 use Rattle.bohm_board.proofs.ClosedWords.{outcome_put}
 use Rattle.bohm_board.proofs.closed.Closed.set_outcome.Goals as goal
@@ -27,3 +31,13 @@ invariant_of-self-clause-sized c =
       presences = sized.presences;
       values = sized.values;
     }
+
+pub returns-clause-left : goal.returns-clause-left
+returns-clause-left c =
+    let b = c.args.self.now.batch in
+    let w = words_of c.args.self.now.columns in
+    let long = c.args.self.now.sized.statuses in
+    let inside = position_inside b c.args.t c.requires.inside in
+    let word = subst (λ (n : ℕ). 2 ≤ n) (sym c.outcome_word.ensures) (two_at_least c.args.outcome) in
+    let left = one_less w.statuses (position b c.args.t) c.outcome_word.result (omega (arith, inside, outcomes_long b, long)) c.requires.unfinished word in
+    rw c.position-position.ensures.position left

@@ -1,4 +1,4 @@
-use Rattle.std.proofs.Common.{ℕ, List, [], ◌∷◌, ◌++◌, refl, sym, ap, ◌∙◌, subst}
+use Rattle.std.proofs.Common.{arith, length, ℕ, List, [], ◌∷◌, ◌++◌, refl, sym, ap, ◌∙◌, subst}
 use Rattle.std.specs.Borrow.{Bor}
 use Rattle.bohm_board.specs.declared.board.Board.{Board}
 use Rattle.bohm_board.specs.declared.status.Status.TheVariants.{Open}
@@ -6,7 +6,9 @@ use Rattle.bohm_board.specs.declared.knowledge.View.{View}
 use Rattle.bohm_board.specs.Batches.{IsIn}
 use Rattle.bohm_board.specs.Passes.{KnowsWanted, batch_of, view}
 use Rattle.bohm_board.proofs.ForCallers.{keeps_then, keeps_along, keeps_claimed}
+use Rattle.bohm_exec.specs.Counts.{counted_on}
 use Rattle.bohm_exec.specs.Steps.{IsFree}
+use Rattle.bohm_exec.proofs.Counting.{counted_same}
 use Rattle.bohm_exec.proofs.Viewed.{wanted_stays}
 use Rattle.bohm_exec.proofs.sweeper.Sweeper.attempt.Goals as goal
 
@@ -42,3 +44,24 @@ returns-in-Mine-clause-step_on g c =
         busy = settled.took.busy ∙ (ap (λ (z : View). z.busy) now ∙ looks.busy);
       };
     }
+
+pub returns-in-Mine-clause-counted : goal.returns-in-Mine-clause-counted
+returns-in-Mine-clause-counted g c =
+    let claimed = ap (λ (z : View). length z.finished) c.in-Mine.ensures.view in
+    let looked = ap length c.find_wanted.ensures.looks.view.finished in
+    let same = c.find_wanted.ensures.evaluations in record {
+      more = 1;
+      finished = omega (arith, c.settle.ensures.finished, claimed, looked);
+      counted = c.settle.ensures.evaluations ∙ c.evaluate-outcome.ensures.count ∙ ap (λ n. counted_on n 1) same;
+    }
+
+pub returns-in-Some-clause-counted : goal.returns-in-Some-clause-counted
+returns-in-Some-clause-counted g c = counted_same _ _ _ _ c.find_wanted.ensures.evaluations c.find_wanted.ensures.looks.view.finished
+
+pub returns-in-Busy-clause-counted : goal.returns-in-Busy-clause-counted
+returns-in-Busy-clause-counted g c = counted_same _ _ _ _ c.find_wanted.ensures.evaluations
+    (ap (λ (z : View). z.finished) c.in-Busy.ensures.view ∙ c.find_wanted.ensures.looks.view.finished)
+
+pub returns-in-Done-clause-counted : goal.returns-in-Done-clause-counted
+returns-in-Done-clause-counted g c = counted_same _ _ _ _ c.find_wanted.ensures.evaluations
+    (ap (λ (z : View). z.finished) c.in-Done.ensures.view ∙ c.find_wanted.ensures.looks.view.finished)

@@ -10,6 +10,7 @@ use Rattle.bohm_board.specs.Passes.{batch_of, view}
 use Rattle.bohm_board.proofs.ForCallers.{keeps_same, keeps_then}
 use Rattle.bohm_exec.specs.Steps.{IsFree}
 use Rattle.bohm_exec.proofs.Descents.{shorter, IsDescent, starts, pushed, last_of, top_of, left_to_do, top_is, only, pop_falls, push_falls, fits_below}
+use Rattle.bohm_exec.proofs.Counting.{counted_same, counted_then}
 use Rattle.bohm_exec.proofs.Steppers.{same_then}
 use Rattle.bohm_exec.proofs.sweeper.Sweeper.pursue.Given as given
 use Rattle.bohm_exec.proofs.sweeper.Sweeper.pursue.Goals as goal
@@ -23,6 +24,7 @@ descent-init g c =
       free = c.requires.start.free;
       room = c.push.ensures.capacity;
       keeps = keeps_same (view c.args.self.now.stepper.pass.now);
+      counted = counted_same _ _ _ _ refl refl;
       busy = refl;
       stack = subst (λ (xs : List ℕ). IsDescent b c.args.start done xs)
           (sym (c.in-Ok.ensures.items ∙ ap (λ (xs : List ℕ). xs ++ c.args.start ∷ []) c.requires.stack.empty))
@@ -88,6 +90,7 @@ descent-preserved-else-is_empty g c =
       free = subst (λ (z : Bor Board). IsFree z.now new.pass.now) inv.same.board c.step_on.ensures.step_on.free;
       room = search (rules, wide);
       keeps = keeps_then (view s.pass.now) (view now.pass.now) (view new.pass.now) inv.keeps c.step_on.ensures.step_on.keeps;
+      counted = counted_then _ _ _ (view s.pass.now) (view now.pass.now) (view new.pass.now) inv.counted c.step_on.ensures.counted;
       busy = c.in-Done.ensures.step_on.took.busy ∙ inv.busy;
       stack = (popped g (goal.at.descent-preserved-else-is_empty g c).After-pop (search rules)).1;
     }
@@ -122,6 +125,7 @@ descent-preserved g c =
       free = subst (λ (z : Bor Board). IsFree z.now new.pass.now) inv.same.board c.step_on.ensures.step_on.free;
       room = search (rules, wide);
       keeps = keeps_then (view s.pass.now) (view now.pass.now) (view new.pass.now) inv.keeps c.step_on.ensures.step_on.keeps;
+      counted = counted_then _ _ _ (view s.pass.now) (view now.pass.now) (view new.pass.now) inv.counted c.step_on.ensures.counted;
       busy = need.busy ∙ inv.busy;
       stack = subst (λ (z : List ℕ × List ℕ). IsDescent b c.args.start z.0 z.1) (λ i. (sym need.done i, sym grown i)) d';
     }
@@ -140,3 +144,11 @@ unreachable-requires-in_default-push g c =
     let wide = ap (λ (z : Vec ℕ Global). vec_capacity z) c.step_on.ensures.stack in
     let long = ap (λ (z : Vec ℕ Global). length z.items) c.step_on.ensures.stack in
     omega (arith, fits, full, room, kept, wide, long)
+
+pub returns-then-is_empty-clause-counted : goal.returns-then-is_empty-clause-counted
+returns-then-is_empty-clause-counted g c = counted_then _ _ _ (view c.args.self.now.stepper.pass.now) (view c.descent.self.stepper.pass.now)
+    (view c.step_on.new.self.stepper.pass.now) c.descent.invariant.counted c.step_on.ensures.counted
+
+pub returns-in-Busy-clause-counted : goal.returns-in-Busy-clause-counted
+returns-in-Busy-clause-counted g c = counted_then _ _ _ (view c.args.self.now.stepper.pass.now) (view c.descent.self.stepper.pass.now)
+    (view c.step_on.new.self.stepper.pass.now) c.descent.invariant.counted c.step_on.ensures.counted
