@@ -1,10 +1,12 @@
 -- When several workers execute a part of a log.
 use Rattle.std.specs.Prelude.{◌≡◌, ℕ, zero, suc, ◌+◌, ◌-◌, ◌*◌, ◌/◌, List, [], ◌∷◌, length, sum_by}
-use Rattle.std.specs.Prelude.{Bool, true, false, ◌&&◌, ◌||◌, nat_lt, nat_le}
+use Rattle.std.specs.Prelude.{Bool, true, false, ◌==◌, ◌||◌, if◌then◌else◌, nat_lt, nat_le}
 use Rattle.bohm_types.specs.Limits.{largest_batch}
 use Rattle.bohm_types.specs.Txn.{Txn}
 use Rattle.bohm_place.specs.Cuttings.{IsEven}
 use Rattle.bohm_settings.specs.Given.{Given}
+use Rattle.bohm_read_ahead.specs.declared.checked_chunk.Sharing.{Sharing}
+use Rattle.bohm_read_ahead.specs.declared.checked_chunk.Sharing.TheVariants.{OneWorker, NoTransactions, ShortBodies, Shared}
 use Rattle.bohm_read_ahead.specs.declared.checked_chunk.Prepared.{Prepared}
 use Rattle.bohm_read_ahead.specs.declared.checked_chunk.Prepared.TheVariants.{Faulty, TooMany, Ready, Planned}
 
@@ -34,9 +36,20 @@ statements txns = sum_by (λ t. length t.body) txns
 abbrev pub are_long : List Txn → Bool
 are_long txns = nat_le (length (sampled txns) * shared_body) (statements (sampled txns))
 
--- several workers execute the part: there are several, there are transactions, and bodies are long or smaller batches than the largest were requested
+-- several workers execute the part if there are several, there are transactions, and bodies are long or smaller batches than the largest were requested
+abbrev pub sharing_of : Given → List Txn → Sharing
+sharing_of given txns =
+    if given.exec == 1 then OneWorker
+    else (if length txns == 0 then NoTransactions else (if nat_lt given.batch largest_batch || are_long txns then Shared else ShortBodies))
+
+abbrev pub is_shared_by : Sharing → Bool
+is_shared_by OneWorker = false
+is_shared_by NoTransactions = false
+is_shared_by ShortBodies = false
+is_shared_by Shared = true
+
 abbrev pub is_shared : Given → List Txn → Bool
-is_shared given txns = nat_lt 1 given.exec && nat_lt 0 (length txns) && (nat_lt given.batch largest_batch || are_long txns)
+is_shared given txns = is_shared_by (sharing_of given txns)
 
 -- there are plans
 abbrev pub is_planned : Prepared → Bool

@@ -7,7 +7,7 @@ ghost use Rattle.bohm_txn.specs.Chunked.{IsLogCheckedTo};
 ghost use Rattle.bohm_txn.specs.Faulty.{IsWellFormedTxn};
 ghost use Rattle.bohm_place.specs.Cuttings.{ArePlans, IsEven};
 ghost use Rattle.bohm_read_ahead.specs.Preparing.{count_with, IsPrepared};
-ghost use Rattle.bohm_read_ahead.specs.Sharing.{are_long, is_planned, is_shared, IsSharedAs};
+ghost use Rattle.bohm_read_ahead.specs.Sharing.{are_long, is_planned, is_shared, IsSharedAs, sharing_of};
 
 use bohm_hints::IndexHints;
 use bohm_log::{HashSeed, Log, LogPart};
@@ -74,16 +74,45 @@ fn are_long(part: &LogPart<'_>) -> bool
     statements >= bodies * SHARED_BODY
 }
 
-/// Whether several workers execute these transactions: there are several, and bodies are long or
-/// smaller batches were requested.
+/// Whether several workers execute transactions by their plans, or why they run in log order on one
+/// thread.
+#[derive(Clone, Copy, Debug, PartialEq, Eq)]
+pub enum Sharing {
+    /// One worker executes.
+    OneWorker,
+    /// There are none.
+    NoTransactions,
+    /// Their bodies are short, and batches are the largest.
+    ShortBodies,
+    /// Several workers execute them.
+    Shared,
+}
+
+/// Whether several workers execute these transactions: there are several workers, and bodies are
+/// long or smaller batches were requested. At most 64 bodies are looked at.
+pub fn sharing_of(part: &LogPart<'_>, settings: Settings) -> Sharing
+    requires few { length part.now ≤ most_txns }
+    requires formed { All IsWellFormedTxn part.now }
+    ensures { result ≡ sharing_of settings part.now }
+{
+    if settings.exec().count() == 1 {
+        Sharing::OneWorker
+    } else if part.len() == 0 {
+        Sharing::NoTransactions
+    } else if settings.batch() < LARGEST_BATCH || are_long(part) {
+        Sharing::Shared
+    } else {
+        Sharing::ShortBodies
+    }
+}
+
+/// Whether several workers execute these transactions.
 fn is_shared(part: &LogPart<'_>, settings: Settings) -> bool
     requires few { length part.now ≤ most_txns }
     requires formed { All IsWellFormedTxn part.now }
     ensures { result ≡ is_shared settings part.now }
 {
-    settings.exec().count() > 1
-        && part.len() > 0
-        && (settings.batch() < LARGEST_BATCH || are_long(part))
+    matches!(sharing_of(part, settings), Sharing::Shared)
 }
 
 /// The batches of these transactions, the first of which has the timestamp `first`, and their

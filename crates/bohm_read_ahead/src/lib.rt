@@ -11,7 +11,7 @@ mod parsing;
 mod promise;
 mod reading_state;
 
-pub use checked_chunk::{CheckedChunk, Prepared, counted};
+pub use checked_chunk::{CheckedChunk, Prepared, Sharing, counted, sharing_of};
 pub use checked_window::CheckedWindow;
 pub use log_reader::LogReader;
 pub use parsing::Parsing;

@@ -134,7 +134,6 @@ impl LogReader {
             (RefusesChunk (R.remaining reader.old) (R.remaining reader.new) self.old.state) }
         ensures settings { self.new.settings ≡ self.old.settings }
     {
-        let threads = self.settings.cc().count();
         let most = most_ahead(self.settings);
         'windows: while !self.state.source.ended && self.state.ahead.len() < most {
             let window = next_window(alloc, reader, &mut self.state.source, self.size)?;
@@ -146,7 +145,6 @@ impl LogReader {
                 window,
                 log: spare.log,
                 hints: spare.hints,
-                checks: threads > 1,
             };
             let parsing = Parsing::start(rt, &self.parsers, task);
             self.state.ahead.push_back(parsing)?;

@@ -12,7 +12,7 @@ use bohm_txn::check_chunk;
 use bohm_types::Edition;
 use std::alloc::Global;
 
-/// A window of a text of this edition that is to be parsed.
+/// A window of a text of this edition that is to be parsed and checked.
 #[derive(Drop)]
 pub(crate) struct ParseTask {
     pub(crate) alloc: Global,
@@ -23,13 +23,11 @@ pub(crate) struct ParseTask {
     pub(crate) log: Log<HashSeed>,
     /// The indexes that the keys of that log had in the history.
     pub(crate) hints: IndexHints,
-    /// Whether its transactions are checked too.
-    pub(crate) checks: bool,
     ghost begins: { take 4 window.text.items ≡ codes "txn" ++ 10 ∷ [] },
 }
 
 impl ParseTask {
-    /// Parses the window. The time grows with the length of the window, and so does the memory if
+    /// Parses the window, and checks its transactions. The time grows with the length of the window, and so does the memory if
     /// the log is new.
     pub(crate) fn run(self) -> CheckedWindow
         ensures { IsChecked self.edition self.window result }
@@ -41,7 +39,6 @@ impl ParseTask {
             window,
             log,
             mut hints,
-            checks,
         } = self;
         let result = parse_window(alloc, seed, edition, log, window.text.as_slice());
         let fault = match &result {
@@ -49,7 +46,7 @@ impl ParseTask {
                 if chunk.renumbered {
                     hints.clear();
                 }
-                checks.then(|| check_chunk(&chunk.log.part()))
+                Some(check_chunk(&chunk.log.part()))
             }
             Err(_) => None,
         };

@@ -33,13 +33,13 @@ impl ParseJob {
 }
 
 /// The maximum number of windows ahead of a run: each thread parses one, and one more is ready. If
-/// several threads parse and the caller's thread executes, each has another window to continue with
-/// while the caller's thread parses one itself.
+/// the caller's thread executes, each has another window to continue with while the caller's thread
+/// parses one itself.
 pub(crate) fn most_ahead(settings: Settings) -> usize
     ensures { 0 < result }
 {
     let threads = settings.cc().count() as usize;
-    if threads > 1 && settings.exec().count() == 1 {
+    if settings.exec().count() == 1 {
         2 * threads + 1
     } else {
         threads + 1
@@ -118,11 +118,9 @@ impl Parsers {
         }
     }
 
-    /// If there are several threads, carries out a job that none of them has taken yet.
+    /// Carries out a job that no thread has taken yet.
     pub(crate) fn help<R: Wait>(&self, rt: &R) {
-        if self.threads.len() > 1
-            && let Ok(job) = self.queue.try_recv(rt)
-        {
+        if let Ok(job) = self.queue.try_recv(rt) {
             job.carry_out();
         }
     }

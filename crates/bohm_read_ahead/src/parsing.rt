@@ -37,8 +37,8 @@ impl Parsing {
         Parsing::There(taker)
     }
 
-    /// Returns the window and the result, and blocks until it is parsed. If it isn't parsed yet and
-    /// several threads parse, another window is parsed on the caller's thread first.
+    /// Returns the window and the result, and blocks until it is parsed. If it isn't parsed yet,
+    /// another window that waits is parsed on the caller's thread first.
     pub(crate) fn finish<R: Wait>(
         self,
         rt: &R,

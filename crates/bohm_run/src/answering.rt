@@ -33,7 +33,8 @@ const WINDOW_SIZE: usize = 32_768;
 /// each batch.
 const SHARED_WINDOW_SIZE: usize = 131_072;
 
-fn window_size(settings: Settings) -> usize {
+/// The minimum number of bytes of a window in `run_text`, except for the first and the last one.
+pub fn window_size(settings: Settings) -> usize {
     if settings.exec().count() == 1 {
         WINDOW_SIZE
     } else {
@@ -111,14 +112,15 @@ fn answer(alloc: Global, state: RunState, ts: u32) -> Result<Vec<u8>, NoMemory>
 /// interrupted call.
 ///
 /// The log is read in windows, and runs as it is read: while the transactions of a window are
-/// executed, `cc` threads parse the windows after it, and check them if there are several threads.
+/// executed, `cc` threads parse and check the windows after it.
 /// The caller's thread runs the transactions in log order, without plans and batches, and reads the
 /// next windows in between. Several workers execute a window whose bodies have at least 32
 /// statements on average, judged by a sample, or every window if the batches are smaller than the
 /// largest. Then the next window is planned meanwhile: of the partitions of the keys by the sum of
-/// their bytes, planning worker w of `cc` has those whose number is w modulo `cc`. A log of one window of short bodies is read and run on the caller's thread. While
-/// the next window isn't parsed, the caller's thread parses another one if several threads parse,
-/// and then blocks. If no thread can be started, it parses all windows.
+/// their bytes, planning worker w of `cc` has those whose number is w modulo `cc`. A log of one window
+/// of short bodies is read and run on the caller's thread. While the next window isn't parsed, the
+/// caller's thread parses another one that waits, and then blocks. If no thread can be started, it
+/// parses all windows.
 ///
 /// The time grows with the text and its answer, with the terms of the transactions and the keys
 /// that they declare, and with the number of the store's keys k as k log k. Parsing is spread over
