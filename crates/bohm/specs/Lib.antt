@@ -7,4 +7,6 @@ pub use Rattle.bohm_apply.specs.Runs
 pub use Rattle.bohm_run.specs.Headline
 pub use Rattle.bohm_machine.specs.Machines
 pub use Rattle.bohm_machine.specs.Segments
+pub use Rattle.bohm_machine.specs.Digests
 pub use Rattle.bohm_run.specs.Agreeing
+pub use Rattle.bohm_store.specs.Versions

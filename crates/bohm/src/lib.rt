@@ -6,7 +6,7 @@ pub mod laws;
 mod running;
 
 pub use bohm_log::{DrawnSeed, FixedSeed, HashSeed};
-pub use bohm_machine::{Machine, SegmentFault};
+pub use bohm_machine::{BatchFault, Machine, SegmentFault};
 pub use bohm_procedures::{Calls, KeyHandle, Procedure, ProcedureFault};
 pub use bohm_run::{Answer, Applied, RunFault, Settings, run_text};
 pub use bohm_store::{History, PastFault, StoreFault};

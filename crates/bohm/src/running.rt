@@ -20,6 +20,9 @@ use std::thread::Threads;
 /// from the history's floor to its top, are those of executing the transactions one after another
 /// in log order. The last `keep` timestamps before the top stay readable; `at` is ignored.
 ///
+/// One executing worker runs them on the calling thread in log order: no thread is started, nothing
+/// is planned. Several execute plans, which a thread makes ahead.
+///
 /// Keys are hashed with a seed that is drawn for this run.
 ///
 /// # Errors
@@ -40,6 +43,9 @@ pub fn run<R: Threads + Wait + Sync + RandomSource>(
     ensures count { let given = length checked.now.store in
         IfOk result (λ a. total a.history.chains ≤ given + declared_writes checked.now.log) }
 {
+    if settings.exec().count() == 1 {
+        return bohm_run::run_in_order(rt, alloc, checked, settings.keep());
+    }
     let Some(partition) = ByteSum::new(settings.parts()) else {
         unreachable!()
     };

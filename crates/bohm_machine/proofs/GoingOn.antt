@@ -1,5 +1,7 @@
 -- The transactions that a machine has run, and those that it runs next.
-use Rattle.std.proofs.Common.{◌≡◌, ℕ, ◌+◌, ◌-◌, ◌<◌, ◌≤◌, ◌^◌, ◌++◌, List, [], length, length-append, take, refl, ap, sym, ◌∙◌, arith, ⊎_elim}
+use Rattle.std.proofs.Common.{◌≡◌, ℕ, ◌+◌, ◌-◌, ◌<◌, ◌≤◌, ◌^◌, ◌++◌, List, [], ◌∷◌, append-nil, length, length-append, take, refl, ap, sym, ◌∙◌, arith, ⊎_elim}
+use Rattle.std.specs.Prelude.{ℤ, Result, Ok, Err, IfOk, OnOk, OnErr}
+use Rattle.std.specs.FinMap.{entries}
 use Rattle.std.proofs.lemmas.List.{length-take}
 use Rattle.std.proofs.lemmas.Bool.{cases_lt}
 use Rattle.bohm_types.specs.Txn.{Txn}
@@ -7,10 +9,11 @@ use Rattle.bohm_txn.specs.declared.outcome.Reply.{Reply}
 use Rattle.bohm_txn.specs.Meaning.{Look}
 use Rattle.bohm_txn.specs.Serial.{state, replies}
 use Rattle.bohm_txn.proofs.ForCallers.{state-append, state-front, replies-append}
-use Rattle.bohm_store.specs.Versions.{Timeline, past}
-use Rattle.bohm_apply.specs.Runs.{IsApplied}
+use Rattle.bohm_store.specs.Versions.{Timeline, past, total}
+use Rattle.bohm_apply.specs.Runs.{IsApplied, IsStillPast}
 use Rattle.bohm_apply.proofs.ForCallers.{floor_stays}
-use Rattle.bohm_machine.specs.Machines.{GoesOn, HasRun, floor_of, now_of, past_of, top_of}
+use Rattle.bohm_txn.specs.Stores.{cell_in, store_of}
+use Rattle.bohm_machine.specs.Machines.{GoesOn, HasRun, IsCompacted, floor_of, now_of, past_of, top_of}
 use Rattle.bohm_machine.specs.Segments.{RunsOn}
 
 -- at the top a machine has the state after its log
@@ -101,3 +104,79 @@ goes_on m n was now log a is ordered low h =
     let below : was.floor ≤ was.top = rw is at ordered in
     let room : was.top + length log < 2 ^ 32 = rw is at low in
     rw is (went 4294967295 was now (take n log) a below (omega (arith, h.top, room, length-take n log)) h)
+
+-- a batch that was run whole
+pub batch_on : (m was now : Timeline) (log : List Txn) → m ≡ was → floor_of m ≤ top_of m → top_of m + length log < 2 ^ 32
+    → IsApplied was now log 4294967295 (replies (past was was.top) log) → GoesOn m now log (replies (now_of m) log)
+batch_on m was now log is ordered low h =
+    let below : was.floor ≤ was.top = rw is at ordered in
+    let room : was.top + length log < 2 ^ 32 = rw is at low in
+    rw is (went 4294967295 was now log (replies (past was was.top) log) below (omega (arith, h.top, room)) h)
+
+-- a batch of no transactions
+pub none_on : (m : Timeline) (log : List Txn) → length log ≡ 0 → GoesOn m m log (replies (now_of m) log)
+none_on m [] none = at_rest m
+none_on m (t ∷ ts) none = absurd (omega (arith, none))
+
+pub none_told : (look : Look) (told : List Reply) (log : List Txn) → length log ≡ 0 → told ≡ told ++ replies look log
+none_told look told [] none = sym (append-nil told)
+none_told look told (t ∷ ts) none = absurd (omega (arith, none))
+
+-- a batch of which nothing was run
+pub still_on : (m was now : Timeline) → m ≡ was → floor_of m ≤ top_of m → IsStillPast was now → GoesOn m now [] []
+still_on m was now is ordered h =
+    let below : was.floor ≤ was.top = rw is at ordered in
+    rw is (record {
+      replies = refl;
+      top = omega (arith, h.top);
+      floor = h.floor;
+      earlier = λ ts above under. h.past ts above under;
+      later = λ ts above under.
+          let e : ts ≡ top_of was = omega (arith, above, under, h.top) in
+          let z : ts - top_of was ≡ 0 = omega (arith, e) in
+          rw z (h.past ts (omega (arith, below, above)) (omega (arith, e)) ∙ ap (past_of was) e);
+      count = omega (arith, h.count);
+    })
+
+-- a machine that forgot the past before its top has run what it had run
+pub compacted_run : (was now : Timeline) → top_of now ≡ top_of was → floor_of now ≡ top_of was → now_of now ≡ now_of was
+    → (look : Look) (start : ℕ) (log : List Txn) → HasRun look start log was → HasRun look start log now
+compacted_run was now top floor holds look start log h = record {
+  top = top ∙ h.top;
+  floor = omega (arith, h.floor, h.ordered, floor);
+  ordered = omega (arith, top, floor);
+  past = λ ts low high.
+      let e : ts ≡ top_of now = omega (arith, low, high, top, floor) in
+      let same : top_of was ≡ ts = omega (arith, e, top) in
+      ap (past_of now) e ∙ holds ∙ h.past (top_of was) h.ordered (omega arith) ∙ ap (λ (n : ℕ). state look log (n - start)) same;
+}
+
+-- a machine that was restored from the store at another one's top is that one, compacted
+pub compacted : {E : Type 0} (was : Timeline) (top : ℕ) (store : List (List ℕ × ℤ)) (r : Result Timeline E) → top ≡ top_of was
+    → cell_in (store_of store) ≡ past_of was top → store ≡ entries (store_of store) → IfOk r (λ m. top_of m ≡ top) → IfOk r (λ m. floor_of m ≡ top)
+    → IfOk r (λ m. past_of m top ≡ cell_in (store_of store)) → IfOk r (λ m. total m.chains ≡ length store) → IfOk r (IsCompacted was)
+compacted was top store (Err e) at cells listed tops floors pasts counts = tt
+compacted was top store (Ok m) at cells listed tops floors pasts counts =
+    let same : top_of m ≡ top_of was = tops ∙ at in
+    let low : floor_of m ≡ top_of was = floors ∙ at in
+    let holds : now_of m ≡ now_of was = ap (past_of m) tops ∙ pasts ∙ cells ∙ ap (past_of was) at in
+    record {
+      top = same;
+      floor = low;
+      holds = holds;
+      store = store;
+      listed = listed;
+      cells = cells ∙ ap (past_of was) at;
+      count = counts;
+      run = compacted_run was m same low holds;
+    }
+
+-- ---- facts of results
+
+pub when_ok : {A E P Q : Type 0} (r : Result A E) → (P → Q) → OnOk r P → OnOk r Q
+when_ok (Ok a) f h = f h
+when_ok (Err e) f h = tt
+
+pub when_err : {A E P Q : Type 0} (r : Result A E) → (P → Q) → OnErr r P → OnErr r Q
+when_err (Ok a) f h = tt
+when_err (Err e) f h = f h

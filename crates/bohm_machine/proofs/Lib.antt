@@ -1,3 +1,6 @@
+pub mod Resting
 pub mod GoingOn
 pub mod Joining
 pub mod Digesting
+pub mod Rising
+pub mod ForCallers

@@ -1,9 +1,11 @@
 -- The state of a machine, and how it continues.
-use Rattle.std.specs.Prelude.{◌≡◌, ℕ, ◌+◌, ◌-◌, ◌≤◌, List, length}
+use Rattle.std.specs.Prelude.{◌≡◌, ℕ, ℤ, ◌+◌, ◌-◌, ◌≤◌, List, length}
+use Rattle.std.specs.FinMap.{entries}
 use Rattle.bohm_types.specs.Txn.{Txn}
 use Rattle.bohm_txn.specs.declared.outcome.Reply.{Reply}
 use Rattle.bohm_txn.specs.Meaning.{Look}
 use Rattle.bohm_txn.specs.Serial.{state, replies}
+use Rattle.bohm_txn.specs.Stores.{cell_in, store_of}
 use Rattle.bohm_store.specs.Versions.{Timeline, declared_writes, past, total}
 
 -- a machine is seen as its history
@@ -36,3 +38,14 @@ pub record HasRun (look : Look) (start : ℕ) (log : List Txn) (m : Timeline) : 
   pub floor : start ≤ floor_of m
   pub ordered : floor_of m ≤ top_of m
   pub past : (ts : ℕ) → floor_of m ≤ ts → ts ≤ top_of m → past_of m ts ≡ state look log (ts - start)
+
+-- the machine forgot the past before its top, and keeps one version of each key that has a value there, and no other
+pub record IsCompacted (was now : Timeline) : Type 0 where
+  pub top : top_of now ≡ top_of was
+  pub floor : floor_of now ≡ top_of was
+  pub holds : now_of now ≡ now_of was
+  pub store : List (List ℕ × ℤ)
+  pub listed : store ≡ entries (store_of store)
+  pub cells : cell_in (store_of store) ≡ now_of was
+  pub count : total now.chains ≡ length store
+  pub run : (look : Look) (start : ℕ) (log : List Txn) → HasRun look start log was → HasRun look start log now

@@ -20,7 +20,7 @@ pub record IsTaken (m : Timeline) (segment : Document) : Type 0 where
 
 abbrev pub IsRefused : Timeline → Document → SegmentFault → Type 0
 IsRefused m segment Store = 0 < length segment.store
-IsRefused m segment Timestamps = 2 ^ 32 ≤ top_of m + length segment.log
+IsRefused m segment Timestamps = (segment.store ≡ []) × (2 ^ 32 ≤ top_of m + length segment.log)
 
 -- the first n transactions are whole batches: batches of these sizes, of which all but the last have size `batch`
 pub record AreWholeBatches (log : List Txn) (batch n : ℕ) : Type 0 where

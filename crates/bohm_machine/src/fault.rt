@@ -1,5 +1,9 @@
 //! Why a segment isn't run.
 
+ghost use Rattle.std.specs.Prelude.{◌≡◌};
+ghost use Rattle.bohm_machine.specs.declared.fault.BatchFault.TheVariants as batch_is;
+
+use bohm_types::NoMemory;
 use thiserror::Error;
 
 /// Why a machine refuses a segment before any of it runs.
@@ -11,4 +15,31 @@ pub enum SegmentFault {
     /// Its timestamps would exceed 4294967295.
     #[error("the segment's timestamps would pass 4294967295")]
     Timestamps,
+}
+
+/// Why a batch isn't run.
+#[derive(Clone, Copy, Debug, PartialEq, Eq, Error)]
+pub enum BatchFault {
+    /// The machine refuses it as a segment.
+    #[error("{0}")]
+    Segment(SegmentFault),
+    /// An allocation failed.
+    #[error("an allocation failed")]
+    NoMemory,
+}
+
+impl From<SegmentFault> for BatchFault {
+    ghost from_gives = { λ fault e. e ≡ batch_is.Segment fault };
+
+    fn from(fault: SegmentFault) -> BatchFault {
+        BatchFault::Segment(fault)
+    }
+}
+
+impl From<NoMemory> for BatchFault {
+    ghost from_gives = { λ _ e. e ≡ batch_is.NoMemory };
+
+    fn from(_e: NoMemory) -> BatchFault {
+        BatchFault::NoMemory
+    }
 }

@@ -3,11 +3,12 @@
 #![tactic(auto)]
 
 mod calls;
+mod compacting;
 mod digest;
 mod fault;
 pub mod laws;
 mod machine;
 
 pub use bohm_apply::Applied;
-pub use fault::SegmentFault;
+pub use fault::{BatchFault, SegmentFault};
 pub use machine::Machine;

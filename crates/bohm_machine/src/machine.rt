@@ -1,6 +1,6 @@
 //! A machine that log segments are applied to.
 
-ghost use Rattle.std.specs.Prelude.{◌≡◌, ℕ, ◌<◌, ◌≤◌, ◌↔◌, List, []};
+ghost use Rattle.std.specs.Prelude.{◌≡◌, ℕ, ◌<◌, ◌≤◌, ◌↔◌, ◌++◌, List, []};
 ghost use Rattle.std.specs.Prelude.{length, max, min, take, true, is_ok};
 ghost use Rattle.std.specs.Prelude.{Err, Ok, IfOk, IfErr, OnOk, OnErr};
 ghost use Rattle.std.specs.FinMap.{entries};
@@ -9,17 +9,19 @@ ghost use Rattle.std.specs.Map.{keys_of};
 ghost use Rattle.std.specs.Str.{bytes_eq};
 ghost use Rattle.bohm_types.specs.Appending.{empty_document};
 ghost use Rattle.bohm_types.specs.Keys.{rising, names_of};
+ghost use Rattle.bohm_txn.specs.Serial.{replies};
 ghost use Rattle.bohm_txn.specs.Stores.{cell_in, store_of};
 ghost use Rattle.bohm_store.specs.Versions.{kept_versions, most_counted, total, versions};
 ghost use Rattle.bohm_store.specs.declared.fault.PastFault.TheVariants as past_is;
 ghost use Rattle.bohm_store.specs.declared.fault.StoreFault.TheVariants as store_is;
-ghost use Rattle.bohm_machine.specs.Machines.{GoesOn, HasRun, floor_of, past_of, top_of};
+ghost use Rattle.bohm_machine.specs.Machines.{GoesOn, HasRun, floor_of, now_of, past_of, top_of};
 ghost use Rattle.bohm_machine.specs.Segments.{AreWholeBatches, IsRefused, IsTaken, RunsOn};
 ghost use Rattle.bohm_types.specs.Limits.{largest_batch};
 
 use crate::fault::SegmentFault;
 use bohm_apply::{Applied, ByteSum, Cuts, Kept, LARGEST_BATCH, SerialExecutor, Settings, apply};
 use bohm_exec::OpenGate;
+use bohm_hints::IndexHints;
 use bohm_log::{DrawnSeed, HashSeed, SharedNames};
 use bohm_procedures::Calls;
 use bohm_store::{History, PastFault, StoreFault};
@@ -36,6 +38,8 @@ pub struct Machine {
     seed: DrawnSeed,
     history: History,
     executor: SerialExecutor,
+    /// The index hints of the lists that `run_batch` ran.
+    hints: IndexHints,
 }
 
 // Written out: a derived drop is proved anew in each function that drops such a value.
@@ -45,9 +49,11 @@ impl Drop for Machine {
             seed: _,
             history,
             executor,
+            hints,
         } = self;
         drop(history);
         drop(executor);
+        drop(hints);
     }
 }
 
@@ -82,6 +88,7 @@ impl Machine {
             seed,
             history,
             executor,
+            hints: IndexHints::new(alloc),
         })
     }
 
@@ -122,6 +129,14 @@ impl Machine {
         self.history.top()
     }
 
+    /// The number of keys that take memory, those without a value included: keys of the store, keys
+    /// that were dropped, and keys that only aborted transactions wrote.
+    pub fn key_count(&self) -> usize
+        ensures { result ≡ length self.now.chains }
+    {
+        self.history.key_count()
+    }
+
     /// The number of kept versions, or `u64::MAX` if there are more. The time grows with the number
     /// of keys.
     pub fn version_count(&self) -> u64
@@ -155,12 +170,14 @@ impl Machine {
             → OnErr result (result ≡ Err store_is.NoMemory) }
         ensures past { IfOk result (λ v. cell_in (store_of v.items) ≡ past_of self.now ts) }
         ensures entries { IfOk result (λ v. v.items ≡ entries (store_of v.items)) }
+        ensures rises { IfOk result (λ v. rising (names_of v.items) ≡ true) }
     {
         self.history.store_at(alloc, ts)
     }
 
     /// If this floor is above the current one, it becomes the floor, and the past below it is
-    /// dropped. The time grows with the number of versions that are dropped. It allocates nothing.
+    /// dropped: at the top, each key keeps one version at most. The time grows with the number of
+    /// versions that are dropped. It allocates nothing.
     pub fn trim(&mut self, floor: u32)
         requires { floor ≤ top_of self.old }
         ensures floor { floor_of self.new ≡ max (floor_of self.old) floor }
@@ -171,6 +188,7 @@ impl Machine {
             → versions self.new k ≡ kept_versions floor (versions self.old k) }
         ensures same { floor ≤ floor_of self.old → (k : List ℕ)
             → versions self.new k ≡ versions self.old k }
+        ensures one { floor ≡ top_of self.old → (k : List ℕ) → length (versions self.new k) ≤ 1 }
         ensures count { total self.new.chains ≤ total self.old.chains }
         ensures run { (look : _) (start : _) (log : _) → HasRun look start log self.old
             → HasRun look start log self.new }
@@ -180,7 +198,7 @@ impl Machine {
 
     /// Checks that a segment may run: it has no starting store, and its timestamps don't exceed
     /// 4294967295.
-    fn admit(&self, segment: &Checked) -> Result<(), SegmentFault>
+    pub(crate) fn admit(&self, segment: &Checked) -> Result<(), SegmentFault>
         ensures ok { OnOk result (IsTaken self.now segment.now) }
         ensures err { IfErr result (IsRefused self.now segment.now) }
         ensures ordered { floor_of self.now ≤ top_of self.now }
@@ -193,6 +211,35 @@ impl Machine {
             return Err(SegmentFault::Timestamps);
         }
         Ok(())
+    }
+
+    /// Runs the transactions of a segment as one batch, all of them or none, and appends their
+    /// replies.
+    pub(crate) fn run_admitted(
+        &mut self,
+        segment: &Checked,
+        answered: &mut Replies,
+    ) -> Result<(), NoMemory>
+        requires taken { IsTaken self.old segment.now }
+        requires ordered { floor_of self.old ≤ top_of self.old }
+        ensures goes_on { OnOk result (GoesOn self.old self.new segment.now.log
+            (replies (now_of self.old) segment.now.log)) }
+        ensures answered { OnOk result
+            (answered.new ≡ answered.old ++ replies (now_of self.old) segment.now.log) }
+        ensures still { OnErr result (GoesOn self.old self.new [] []) }
+        ensures unanswered { OnErr result (answered.new ≡ answered.old) }
+    {
+        let txns = segment.log();
+        if txns.len() == 0 {
+            return Ok(());
+        }
+        self.executor.run_batch(
+            &mut self.history,
+            answered,
+            &txns,
+            &mut self.hints,
+            u32::MAX,
+        )
     }
 
     /// Runs the transactions of a segment after the top, on the caller's thread, in batches of
@@ -230,8 +277,9 @@ impl Machine {
     }
 
     /// Runs the transactions of a segment as `apply` does, with as many workers, partitions and
-    /// transactions in a batch as the settings say. `keep` and `at` are ignored: the floor is
-    /// unchanged.
+    /// transactions in a batch as the settings say. One executing worker runs them on the calling
+    /// thread in log order; several execute plans, which a thread makes ahead. `keep` and `at` are
+    /// ignored: the floor is unchanged.
     pub fn apply_on_workers<R: Threads + Wait + Sync>(
         &mut self,
         rt: &R,
@@ -261,17 +309,16 @@ impl Machine {
             Ok(cuts) => cuts,
             Err(refusal) => return Ok(unapplied(alloc, refusal)),
         };
+        let (history, keep) = (&mut self.history, Kept::new(u32::MAX));
+        if settings.exec().count() == 1 {
+            return Ok(
+                self.executor
+                    .apply(alloc, history, &txns, &cuts, keep.timestamps()),
+            );
+        }
+        let (cc, exec) = (settings.cc(), settings.exec());
         Ok(apply(
-            rt,
-            alloc,
-            &mut self.history,
-            &txns,
-            &cuts,
-            settings.cc(),
-            settings.exec(),
-            Kept::new(u32::MAX),
-            &partition,
-            &OpenGate,
+            rt, alloc, history, &txns, &cuts, cc, exec, keep, &partition, &OpenGate,
         ))
     }
 }
