@@ -1,0 +1,4 @@
+mod Cutting
+mod Reading
+mod ByKind
+pub mod ForCallers

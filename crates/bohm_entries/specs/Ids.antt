@@ -1,5 +1,5 @@
 -- The ids that entries may carry.
-use Rattle.std.specs.Prelude.{◌≡◌, ℕ, Bool, true, ◌&&◌, List, nat_le, length}
+use Rattle.std.specs.Prelude.{ℕ, Bool, ◌&&◌, List, nat_le, length}
 use Rattle.std.specs.List.{list_all}
 
 -- `!` to `~`

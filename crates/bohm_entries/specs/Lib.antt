@@ -1,3 +1,4 @@
 pub mod Ids
 pub mod FirstLines
 pub mod Meaning
+pub mod Batches

@@ -1,11 +1,8 @@
 -- What an entry means: a step of the serial run.
-use Rattle.std.specs.Prelude.{◌≡◌, ℕ, ℤ, ◌+◌, Bool, true, false, List, [], ◌∷◌, ◌++◌, Option, Some, None, length, if◌then◌else◌}
+use Rattle.std.specs.Prelude.{ℕ, ℤ, List, [], ◌∷◌, ◌++◌, Option, Some, None, if◌then◌else◌}
 use Rattle.std.specs.Str.{bytes_eq}
 use Rattle.bohm_types.specs.Procedure.{Procedure, instance}
 use Rattle.bohm_types.specs.Txn.{Txn}
-use Rattle.bohm_txn.specs.Meaning.{Look, body}
-use Rattle.bohm_txn.specs.Serial.{after, reply_of}
-use Rattle.bohm_txn.specs.declared.outcome.Reply.{Reply}
 
 -- a name and its procedure; a call by its name, with its arguments; a transaction
 pub data Entry : Type 0 where

@@ -1,6 +1,7 @@
 //! Why an entry is refused.
 
 use bohm_txn::CheckFault;
+use std::alloc::AllocFailed;
 
 /// Why an entry isn't stored.
 #[derive(Clone, Copy, Debug, PartialEq, Eq)]
@@ -35,4 +36,10 @@ pub enum EntryFault {
     Refused(Refusal),
     /// An allocation failed.
     NoMemory,
+}
+
+impl<T: Drop> From<AllocFailed<T>> for EntryFault {
+    fn from(_e: AllocFailed<T>) -> EntryFault {
+        EntryFault::NoMemory
+    }
 }

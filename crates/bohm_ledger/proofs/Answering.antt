@@ -1,10 +1,10 @@
 -- What the table `request` tells of the batches.
-use Rattle.std.proofs.Common.{◌≡◌, ℕ, List, false, sym, ap, ◌∙◌, subst}
+use Rattle.std.proofs.Common.{◌≡◌, ℕ, pos, List, false, sym, ap, ◌∙◌, subst}
 use Rattle.bohm_types.specs.declared.edition.Edition.{Edition}
-use Rattle.sqlite_value.specs.declared.value.Value.TheVariants.{Text}
+use Rattle.sqlite_value.specs.declared.value.Value.TheVariants.{Int, Text}
 use Rattle.sqlite_value.specs.Order.{Row, column, bytes}
 use Rattle.sqlite_trees.specs.View.{View}
-use Rattle.bohm_ledger.specs.Rows.{Has, AreRequests, request_row, request_tree}
+use Rattle.bohm_ledger.specs.Rows.{Has, AreRequests, natural, request_row, request_tree}
 use Rattle.bohm_ledger.specs.Rules.{Look, State, Rules, origin, requests}
 use Rattle.bohm_ledger.specs.Ledgers.{IsLedger, IsReady}
 use Rattle.bohm_ledger.specs.Steps.{Finds, OnlyReads}
@@ -20,14 +20,16 @@ module _ {Defs : Type 0} (rules : Rules Defs) (edition : Edition) (bs : List (Li
       → Has (request_row p (id, answer)) (requests rules 1 (origin rules edition) bs) → ⊥
   unanswered id row none p answer there = none p answer (ready.ledger.requests.there (request_row p (id, answer)) there)
 
-  pub answered : (id answer : List ℕ) (row : Row) → Has row (v.trees request_tree) → column row 0 ≡ Text id → column row 2 ≡ Text answer → (p : ℕ)
-      × Has (request_row p (id, answer)) (requests rules 1 (origin rules edition) bs)
-  answered id answer row there first third =
+  pub answered : (id answer : List ℕ) (p : ℕ) (row : Row) → Has row (v.trees request_tree) → column row 0 ≡ Text id → column row 1 ≡ Int (pos p)
+      → column row 2 ≡ Text answer → Has (request_row p (id, answer)) (requests rules 1 (origin rules edition) bs)
+  answered id answer p row there first second third =
       let form = all_requests row there in
+      let at : form.0 ≡ p = ap natural (ap (λ r. column r 1) (sym form.2) ∙ second) in
       let key : form.1.0 ≡ id = ap bytes (ap (λ r. column r 0) (sym form.2) ∙ first) in
       let text : form.1.1 ≡ answer = ap bytes (ap (λ r. column r 2) (sym form.2) ∙ third) in
-      let is : row ≡ request_row form.0 (id, answer) = form.2 ∙ ap (λ k. request_row form.0 (k, form.1.1)) key ∙ ap (λ t. request_row form.0 (id, t)) text in
-      (form.0, subst (λ r. Has r (requests rules 1 (origin rules edition) bs)) is (ready.ledger.requests.back row there))
+      let is : row ≡ request_row p (id, answer) = form.2 ∙ ap (λ n. request_row n form.1) at ∙ ap (λ k. request_row p (k, form.1.1)) key
+      ∙ ap (λ t. request_row p (id, t)) text in
+      subst (λ r. Has r (requests rules 1 (origin rules edition) bs)) is (ready.ledger.requests.back row there)
 
   -- after a call that only reads
   pub still_ready : (new : View) → OnlyReads v new → IsReady rules edition bs new place checkpoint state saved

@@ -18,10 +18,10 @@ use Rattle.bohm_ledger.specs.Steps.{AreLess, Forgets}
 use Rattle.bohm_ledger.proofs.Appending.{int_below}
 use Rattle.bohm_ledger.proofs.Storing.{sets_from}
 
-is_it : (n : ℕ) (first : ℕ) (b : List ℕ) → has_rowid (pos n) (batch_row n first b) ≡ true
+pub is_it : (n : ℕ) (first : ℕ) (b : List ℕ) → has_rowid (pos n) (batch_row n first b) ≡ true
 is_it n first b = ap is_eq (value_cmp-Int (pos n) (pos n) ∙ sym (int_cmp_is (pos n) (pos n) Equal refl))
 
-is_another : (m n first : ℕ) (b : List ℕ) → m ≢ n → has_rowid (pos n) (batch_row m first b) ≡ false
+pub is_another : (m n first : ℕ) (b : List ℕ) → m ≢ n → has_rowid (pos n) (batch_row m first b) ≡ false
 is_another m n first b other = go (above_or_below m n other)
   where
     above_or_below : (m n : ℕ) → m ≢ n → (m < n) ⊎ (n < m)

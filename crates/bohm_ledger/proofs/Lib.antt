@@ -10,3 +10,4 @@ pub mod Forgetting
 pub mod Creating
 pub mod Finding
 pub mod Answering
+pub mod Placing

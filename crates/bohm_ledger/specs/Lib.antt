@@ -3,3 +3,4 @@ pub mod Rules
 pub mod Ledgers
 pub mod Steps
 pub mod Loading
+pub mod Places

@@ -5,11 +5,24 @@ use std::alloc::{AllocError, AllocFailed};
 use std::error::Error;
 use std::fmt;
 
+/// Why a machine can't go on.
+#[derive(Clone, Copy, Debug, PartialEq, Eq)]
+pub enum MachineFault {
+    /// An allocation failed.
+    OutOfMemory,
+    /// A batch has an entry that isn't one here, or the keys of a checkpoint aren't in order.
+    Unreadable,
+    /// The numbers of transactions are used up.
+    Full,
+}
+
 /// Why a call of a ledger fails.
 #[derive(Clone, Copy, Debug, PartialEq, Eq)]
 pub enum Fault {
     /// An allocation failed.
     OutOfMemory,
+    /// The machine can't go on.
+    Machine(MachineFault),
     /// The store failed.
     Store(StoreError),
     /// The numbers of batches or transactions would reach 2^63.
@@ -22,10 +35,45 @@ pub enum Fault {
     Behind,
 }
 
+impl fmt::Display for MachineFault {
+    fn fmt<W: fmt::Write>(&self, f: &mut fmt::Formatter<W>) -> fmt::Result {
+        f.write_str(match self {
+            MachineFault::OutOfMemory => "out of memory",
+            MachineFault::Unreadable => "the ledger has an entry that can't be read",
+            MachineFault::Full => "the ledger has no number left",
+        })
+    }
+}
+
+impl Error for MachineFault {}
+
+impl From<AllocError> for MachineFault {
+    ghost use Rattle.std.specs.Prelude.{◌≡◌};
+    ghost use Rattle.bohm_ledger.specs.declared.error.MachineFault.TheVariants.{OutOfMemory};
+
+    ghost from_gives = { λ _ e. e ≡ OutOfMemory };
+
+    fn from(_: AllocError) -> MachineFault {
+        MachineFault::OutOfMemory
+    }
+}
+
+impl<T: Drop> From<AllocFailed<T>> for MachineFault {
+    ghost use Rattle.std.specs.Prelude.{◌≡◌};
+    ghost use Rattle.bohm_ledger.specs.declared.error.MachineFault.TheVariants.{OutOfMemory};
+
+    ghost from_gives = { λ _ e. e ≡ OutOfMemory };
+
+    fn from(_: AllocFailed<T>) -> MachineFault {
+        MachineFault::OutOfMemory
+    }
+}
+
 impl fmt::Display for Fault {
     fn fmt<W: fmt::Write>(&self, f: &mut fmt::Formatter<W>) -> fmt::Result {
         match self {
             Fault::OutOfMemory => f.write_str("out of memory"),
+            Fault::Machine(fault) => write!(f, "{fault}"),
             Fault::Store(error) => write!(f, "{error}"),
             Fault::Full => f.write_str("the ledger has no number left"),
             Fault::NoLedger => f.write_str("the file is no ledger"),
@@ -56,6 +104,17 @@ impl<T: Drop> From<AllocFailed<T>> for Fault {
 
     fn from(_: AllocFailed<T>) -> Fault {
         Fault::OutOfMemory
+    }
+}
+
+impl From<MachineFault> for Fault {
+    ghost use Rattle.std.specs.Prelude.{◌≡◌};
+    ghost use Rattle.bohm_ledger.specs.declared.error.Fault.TheVariants.{Machine};
+
+    ghost from_gives = { λ x e. e ≡ Machine x };
+
+    fn from(fault: MachineFault) -> Fault {
+        Fault::Machine(fault)
     }
 }
 

@@ -7,6 +7,7 @@ ghost use Rattle.bohm_types.specs.declared.edition.Edition.{Edition as TheEditio
 ghost use Rattle.bohm_ledger.specs.Rows.{Has, request_row};
 ghost use Rattle.bohm_ledger.specs.Rules.{origin, requests};
 ghost use Rattle.bohm_ledger.specs.Ledgers.{IsBlank, IsReady, StandsFor};
+ghost use Rattle.bohm_ledger.specs.Places.{IsAt, IsMissing};
 ghost use Rattle.bohm_ledger.specs.Steps.{IsSteady};
 
 use crate::balance::replace;
@@ -17,11 +18,10 @@ use crate::forget::forget;
 use crate::keep::keep;
 use crate::load::{Loaded, load};
 use crate::machine::Machine;
-use crate::tables::LIMIT;
+use crate::tables::{BATCH, LIMIT, read_batch, read_request};
 use bohm_types::Edition;
 use sqlite_trees::store::Store;
 use sqlite_value::row::Row;
-use sqlite_value::value::ValueRef;
 use std::alloc::Global;
 
 /// Batches of entries in a store, and a machine that has run them.
@@ -41,6 +41,15 @@ pub struct Ledger<S: Store + Drop, M: Machine + Drop> {
     ghost small: { place < 2 ^ 63 },
     ghost low: { checkpoint < 2 ^ 63 },
     ghost steady: { IsClean (S.view store) → IsSteady (S.view store) },
+}
+
+/// What is stored of an entry with an id.
+#[derive(Debug, Drop)]
+pub struct Stored {
+    /// The place of its batch.
+    pub place: u64,
+    /// The answer to it.
+    pub answer: Vec<u8>,
 }
 
 impl<S: Store + Drop, M: Machine + Drop> Ledger<S, M> {
@@ -250,14 +259,14 @@ impl<S: Store + Drop, M: Machine + Drop> Ledger<S, M> {
         Ok(())
     }
 
-    /// The answer to the entry with this id, if one was stored. The time is that of one search.
-    pub fn answer_to(&mut self, id: &[u8]) -> Result<Option<Vec<u8>>, Fault>
+    /// What is stored of the entry with this id, if one was. The time is that of one search.
+    pub fn request(&mut self, id: &[u8]) -> Result<Option<Stored>, Fault>
         ensures found { IfOk result (λ it. IsClean (S.view self.new.store) → (bs : List (List ℕ))
             → IsReady M.rules self.old.edition bs (S.view self.old.store)
             self.old.place self.old.checkpoint (M.state self.old.machine) (M.saved self.old.machine)
             → MatchOption it
             ((place : ℕ) (answer : List ℕ) → ¬ Has (request_row place (id.now, answer)) (requests M.rules 1 (origin M.rules self.old.edition) bs))
-            (λ answer. (place : ℕ) × Has (request_row place (id.now, answer.items)) (requests M.rules 1 (origin M.rules self.old.edition) bs))) }
+            (λ it. Has (request_row it.place (id.now, it.answer.items)) (requests M.rules 1 (origin M.rules self.old.edition) bs))) }
         ensures ready { IsClean (S.view self.new.store) → OnOk result ((bs : List (List ℕ))
             → IsReady M.rules self.old.edition bs (S.view self.old.store)
             self.old.place self.old.checkpoint (M.state self.old.machine) (M.saved self.old.machine)
@@ -270,9 +279,40 @@ impl<S: Store + Drop, M: Machine + Drop> Ledger<S, M> {
         if !find(&mut self.store, &mut self.row, id)? {
             return Ok(None);
         }
-        match self.row.get(2) {
-            ValueRef::Text(answer) => Ok(Some(Vec::from_slice(self.alloc, answer)?)),
-            _ => Err(Fault::NoLedger),
+        match read_request(&self.row) {
+            Some((place, answer)) => Ok(Some(Stored {
+                place,
+                answer: Vec::from_slice(self.alloc, answer)?,
+            })),
+            None => Err(Fault::NoLedger),
+        }
+    }
+
+    /// The text of the batch that has this place, the first of them 1, if there is one that wasn't
+    /// taken out. The time is that of one search, and grows with the text.
+    pub fn batch_at(&mut self, place: u64) -> Result<Option<Vec<u8>>, Fault>
+        ensures found { IfOk result (λ it. IsClean (S.view self.new.store) → (bs : List (List ℕ))
+            → IsReady M.rules self.old.edition bs (S.view self.old.store)
+            self.old.place self.old.checkpoint (M.state self.old.machine) (M.saved self.old.machine)
+            → MatchOption it (IsMissing M.rules self.old.checkpoint place 1 1 bs) (λ text. IsAt place 1 text.items bs)) }
+        ensures ready { IsClean (S.view self.new.store) → OnOk result ((bs : List (List ℕ))
+            → IsReady M.rules self.old.edition bs (S.view self.old.store)
+            self.old.place self.old.checkpoint (M.state self.old.machine) (M.saved self.old.machine)
+            → IsReady M.rules self.old.edition bs (S.view self.new.store)
+            self.new.place self.new.checkpoint (M.state self.new.machine) (M.saved self.new.machine)) }
+        ensures edition { self.new.edition ≡ self.old.edition }
+        ensures clean { doubt (S.view self.old.store).is_clean ≤ doubt (S.view self.new.store).is_clean }
+        ensures any_moment { (db : Trees) → S.recovers self.new.store db → S.recovers self.old.store db }
+    {
+        if place >= self.place {
+            return Ok(None);
+        }
+        if !self.store.get(BATCH, place as i64, &mut self.row)? {
+            return Ok(None);
+        }
+        match read_batch(&self.row) {
+            Some((_, _, text)) => Ok(Some(Vec::from_slice(self.alloc, text)?)),
+            None => Err(Fault::NoLedger),
         }
     }
 

@@ -15,6 +15,6 @@ mod machine;
 mod tables;
 
 pub use crash::restart;
-pub use error::Fault;
-pub use ledger::Ledger;
+pub use error::{Fault, MachineFault};
+pub use ledger::{Ledger, Stored};
 pub use machine::{Answer, Machine, Ran};

@@ -5,8 +5,9 @@ ghost use Rattle.bohm_types.specs.Keys.{is_among};
 ghost use Rattle.bohm_ledger.specs.Rules.{Look, State, Rules, AreRules, after, cells};
 ghost use Rattle.bohm_ledger.specs.Loading.{passed};
 
+use crate::error::MachineFault;
 use bohm_types::{Cell, Edition, Key, Value};
-use std::alloc::{AllocError, Global};
+use std::alloc::Global;
 use std::marker::Model;
 
 /// The id that an entry carried, and the answer to it.
@@ -92,18 +93,19 @@ pub trait Machine {
         edition: Edition,
         store: &[(Key, Value)],
         top: u64,
-    ) -> Result<(), AllocError>
+    ) -> Result<(), MachineFault>
         ensures state { OnOk result
             (state self.new ≡ record { defs = rules.start edition; look = cells store.now; top = top }) }
         ensures saved { OnOk result (saved self.new ≡ cells store.now) };
 
-    /// Takes the definitions of a batch in, and runs none of its transactions.
-    fn pass(&mut self, batch: &[u8]) -> Result<(), AllocError>
+    /// Takes the definitions of a batch in, and runs none of its transactions. After an `Err`
+    /// nothing is known of the machine.
+    fn pass(&mut self, batch: &[u8]) -> Result<(), MachineFault>
         ensures state { OnOk result (state self.new ≡ passed rules (state self.old) batch.now) }
         ensures saved { OnOk result (saved self.new ≡ saved self.old) };
 
     /// Runs a batch. After an `Err` nothing is known of the machine.
-    fn run(&mut self, alloc: Global, batch: &[u8]) -> Result<Ran<Self::Reply>, AllocError>
+    fn run(&mut self, alloc: Global, batch: &[u8]) -> Result<Ran<Self::Reply>, MachineFault>
         ensures state { OnOk result (state self.new ≡ after rules (state self.old) batch.now) }
         ensures saved { OnOk result (saved self.new ≡ saved self.old) }
         ensures replies { IfOk result (λ it. it.replies.items ≡ replies (state self.old) batch.now) }

@@ -1,8 +1,10 @@
 //! The tables of a ledger, and their rows.
 
-ghost use Rattle.std.specs.Prelude.{◌≡◌, ◌<◌, ◌^◌, ◌↔◌, ℕ, ℤ, List, MatchOption, IfSome, OnOk, IsTrue};
+ghost use Rattle.std.specs.Prelude.{◌≡◌, ◌<◌, ◌^◌, ◌↔◌, ℕ, ℤ, pos, List, MatchOption, IfSome, OnOk, IsTrue};
 ghost use Rattle.sqlite_trees.specs.declared.store.Shape.{Shape as TheShape};
 ghost use Rattle.sqlite_value.specs.Keys.{plain};
+ghost use Rattle.sqlite_value.specs.Order.{column};
+ghost use Rattle.sqlite_value.specs.declared.value.Value.TheVariants.{Int, Text};
 ghost use Rattle.bohm_types.specs.declared.cell.Cell.TheVariants.{Present};
 ghost use Rattle.bohm_ledger.specs.Rows.{head_row, batch_row, balance_row, request_row, edition_number};
 ghost use Rattle.bohm_ledger.specs.Ledgers.{HasTables};
@@ -176,6 +178,20 @@ pub(crate) fn read_batch(row: &Row) -> Option<(u64, u64, &[u8])>
     match (row.get(0), row.get(1), row.get(2), row.get(3)) {
         (ValueRef::Int(place), ValueRef::Null, ValueRef::Int(first), ValueRef::Text(text))
             if place >= 0 && first >= 0 => { Some((place as u64, first as u64, text)) }
+        _ => None,
+    }
+}
+
+/// The place of the batch and the answer that a row of `request` says, if it is one.
+pub(crate) fn read_request(row: &Row) -> Option<(u64, &[u8])>
+    ensures { MatchOption result
+        ((place : ℕ) (e : List ℕ × List ℕ) → ¬ (row.now ≡ request_row place e))
+        (λ it. (column row.now 1 ≡ Int (pos it.0)) × (column row.now 2 ≡ Text it.1.now)) }
+{
+    match (row.get(1), row.get(2)) {
+        (ValueRef::Int(place), ValueRef::Text(answer)) if place >= 0 => {
+            Some((place as u64, answer))
+        }
         _ => None,
     }
 }

@@ -1,0 +1,3 @@
+mod Since
+mod Changing
+mod Beginning

@@ -1,0 +1,73 @@
+//! One transaction on a machine.
+
+ghost use Rattle.std.specs.Prelude.{◌≡◌, ◌∷◌, [], ℕ, List, true, IfOk, OnOk, length};
+ghost use Rattle.bohm_types.specs.Keys.{is_among, names_of, rising};
+ghost use Rattle.bohm_types.specs.Txn.{Txn};
+ghost use Rattle.bohm_txn.specs.Meaning.{body};
+ghost use Rattle.bohm_txn.specs.Serial.{after, reply_of};
+ghost use Rattle.bohm_machine.specs.Machines.{now_of};
+ghost use Rattle.bohm_durable.specs.Entering.{IsSince, KeepsCheckpoint};
+
+use bohm_ledger::MachineFault;
+use bohm_machine::{Machine, SegmentFault};
+use bohm_txn::{Checked, Replies};
+use bohm_types::{Key, NoMemory, Value};
+use std::alloc::Global;
+
+/// Whether the keys are in ascending order.
+pub(crate) fn is_rising(entries: &[(Key, Value)]) -> bool
+    ensures { result ≡ rising (names_of entries.now) }
+{
+    let mut last: Option<Key> = None;
+    for (key, _) in entries {
+        if let Some(before) = last {
+            if !(before < *key) {
+                return false;
+            }
+        }
+        last = Some(*key);
+    }
+    true
+}
+
+/// Adds the keys that the only transaction of a log declares to write.
+pub(crate) fn note_writes(changed: &mut Vec<Key>, log: &Checked) -> Result<(), NoMemory>
+    requires { length log.now.log ≡ 1 }
+    ensures kept { (k : List ℕ) → is_among changed.old.items k ≡ true → is_among changed.new.items k ≡ true }
+    ensures noted { OnOk result ((t : Txn) → log.now.log ≡ t ∷ [] → (k : List ℕ) → is_among t.writes k ≡ true
+        → is_among changed.new.items k ≡ true) }
+{
+    let writes = log.log().txn(0).writes();
+    'keys: for place in 0..writes.len() {
+        changed.push(*writes.key(place))?;
+    }
+    Ok(())
+}
+
+/// Runs the only transaction of a log after the top.
+pub(crate) fn apply_one(
+    machine: &mut Machine,
+    alloc: Global,
+    log: &Checked,
+) -> Result<Replies, MachineFault>
+    requires { length log.now.log ≡ 1 }
+    ensures one { IfOk result (λ replies. length replies ≡ 1) }
+    ensures replies { IfOk result (λ replies. (t : Txn) → log.now.log ≡ t ∷ []
+        → replies ≡ reply_of (body (now_of machine.old) t) ∷ []) }
+    ensures now { OnOk result ((t : Txn) → log.now.log ≡ t ∷ []
+        → now_of machine.new ≡ after (now_of machine.old) t) }
+    ensures since { (changed : List (List ℕ)) → IsSince machine.old changed
+        → ((t : Txn) → log.now.log ≡ t ∷ [] → (k : List ℕ) → is_among t.writes k ≡ true → is_among changed k ≡ true)
+        → IsSince machine.new changed }
+    ensures checkpoint { KeepsCheckpoint machine.old machine.new }
+{
+    let _well_formed = log.log();
+    match machine.apply(alloc, log) {
+        Ok(applied) => match applied.end {
+            Ok(()) => Ok(applied.replies),
+            Err(_) => Err(MachineFault::OutOfMemory),
+        },
+        Err(SegmentFault::Store) => Err(MachineFault::Unreadable),
+        Err(SegmentFault::Timestamps) => Err(MachineFault::Full),
+    }
+}

@@ -1,0 +1,117 @@
+//! A machine that remembers its last checkpoint.
+
+ghost use Rattle.std.specs.Prelude.{◌≡◌};
+ghost use Rattle.bohm_durable.specs.Entering.{IsSince};
+
+use crate::applying::{apply_one, is_rising, note_writes};
+use bohm_ledger::MachineFault;
+use bohm_log::DrawnSeed;
+use bohm_machine::Machine;
+use bohm_procedures::Calls;
+use bohm_replay::Past;
+use bohm_txn::{Checked, Replies};
+use bohm_types::{Cell, Edition, Key, NoMemory, Value};
+use std::alloc::Global;
+
+/// The timestamp from which on a machine is made anew at a checkpoint.
+const LATE: u32 = 1 << 31;
+
+/// A machine that remembers what each key held at the last checkpoint, and which keys may have
+/// changed since.
+#[derive(Drop)]
+pub struct Checkpointed {
+    alloc: Global,
+    seed: DrawnSeed,
+    /// Its floor is at the last checkpoint. Its timestamps begin at 0 again there, once they have
+    /// passed 2^31.
+    machine: Machine,
+    /// The keys that transactions since the last checkpoint declared to write.
+    changed: Vec<Key>,
+    ghost since: { IsSince machine changed.items },
+}
+
+impl Checkpointed {
+    /// A machine whose keys hold nothing. Keys are hashed with the seed.
+    pub fn new(alloc: Global, seed: DrawnSeed) -> Result<Checkpointed, NoMemory> {
+        let machine = Machine::restore(alloc, seed, &[], 0)?;
+        Ok(Checkpointed {
+            alloc,
+            seed,
+            machine,
+            changed: Vec::new(alloc),
+        })
+    }
+}
+
+impl Past for Checkpointed {
+    ghost use Rattle.bohm_machine.specs.Machines.{floor_of, now_of, past_of};
+
+    ghost look = { λ p. now_of p.machine };
+
+    ghost saved = { λ p. past_of p.machine (floor_of p.machine) };
+
+    fn start(&mut self, store: &[(Key, Value)]) -> Result<(), MachineFault> {
+        if !is_rising(store) {
+            return Err(MachineFault::Unreadable);
+        }
+        let Ok(machine) = Machine::restore(self.alloc, self.seed, store, 0) else {
+            return Err(MachineFault::OutOfMemory);
+        };
+        self.machine = machine;
+        self.changed.clear();
+        Ok(())
+    }
+
+    fn renew(&mut self) -> Result<(), MachineFault> {
+        let last = self.machine.top();
+        if last < LATE || self.machine.floor() != last {
+            return Ok(());
+        }
+        let Ok(store) = self.machine.store_at(self.alloc, last) else {
+            return Err(MachineFault::OutOfMemory);
+        };
+        if !is_rising(store.as_slice()) {
+            return Err(MachineFault::Unreadable);
+        }
+        let Ok(machine) = Machine::restore(self.alloc, self.seed, store.as_slice(), 0) else {
+            return Err(MachineFault::OutOfMemory);
+        };
+        self.machine = machine;
+        Ok(())
+    }
+
+    fn calls(&self, edition: Edition) -> Result<Calls, NoMemory> {
+        self.machine.calls(self.alloc, edition)
+    }
+
+    fn run_one(&mut self, log: &Checked) -> Result<Replies, MachineFault> {
+        if note_writes(&mut self.changed, log).is_err() {
+            return Err(MachineFault::OutOfMemory);
+        }
+        apply_one(&mut self.machine, self.alloc, log)
+    }
+
+    fn changed(&self) -> &[Key] {
+        self.changed.as_slice()
+    }
+
+    fn value(&self, key: &Key) -> Cell {
+        match self.machine.value_at(key, self.machine.top()) {
+            Ok(cell) => cell,
+            Err(_) => unreachable!(),
+        }
+    }
+
+    fn saved_value(&self, key: &Key) -> Cell {
+        match self.machine.value_at(key, self.machine.floor()) {
+            Ok(cell) => cell,
+            Err(_) => unreachable!(),
+        }
+    }
+
+    fn note_checkpoint(&mut self) {
+        let last = self.machine.top();
+        self.machine.trim(last);
+        self.changed.clear();
+    }
+}

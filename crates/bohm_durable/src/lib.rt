@@ -1,0 +1,8 @@
+//! The machine of Corkbamboo under a ledger: it remembers what each key held at the last
+//! checkpoint.
+#![tactic(auto)]
+
+mod applying;
+mod checkpointed;
+
+pub use checkpointed::Checkpointed;

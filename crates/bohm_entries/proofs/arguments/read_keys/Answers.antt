@@ -1,0 +1,15 @@
+use Rattle.std.proofs.Common.{◌≡◌, suc, ◌+◌, ◌-◌, sym, arith}
+use Rattle.bohm_entries.proofs.Reading as lemma
+use Rattle.bohm_entries.proofs.arguments.read_keys.Goals as goal
+
+pub returns-in_default : goal.returns-in_default
+returns-in_default c = record { found = lemma.keys_ended c.words.keys.items _ _ _ c.in_default.ensures.0 c.words.invariant }
+
+pub words-preserved : goal.words-preserved
+words-preserved c =
+    let more : c.args.count - c.words.counter ≡ suc (c.args.count - (c.words.counter + 1)) = omega arith in
+    rw c.in_ok-push.ensures.items (lemma.key_taken c.words.keys.items c.in-Some-new.key c.in-Some.word.now c.words.rest c.next.new.self _ _ _ more
+    c.in-Some.ensures (sym c.in-Some-new.ensures) c.words.invariant)
+
+pub returns : goal.returns
+returns c = record { found = lemma.keys_taken c.words.keys.items c.words.rest (c.args.count - c.words.counter) _ (omega arith) c.words.invariant }

@@ -1,0 +1,3 @@
+mod SerialRun
+mod Stepping
+mod Replied

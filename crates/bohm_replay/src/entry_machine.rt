@@ -1,0 +1,344 @@
+//! The machine of a ledger's entries.
+
+ghost use Rattle.std.specs.Prelude.{◌≡◌, ◌∷◌, ◌++◌, ◌+◌, [], IfOk, IsSome, OnOk, length};
+ghost use Rattle.bohm_types.specs.Txn.{Txn};
+ghost use Rattle.bohm_txn.specs.Serial.{after};
+ghost use Rattle.bohm_text.specs.Cut.{whole_lines};
+ghost use Rattle.bohm_entries.specs.Batches.{called_of, define_of, definitions_with, entries_of, entry_by_kind, entry_in, id_in, transaction_of, weight, weight_of};
+ghost use Rattle.bohm_replay.specs.Entries.{IsLogOf, IsRun, reply_line, request_with, state_of};
+
+use crate::admitting::admit;
+use crate::answer_text::AnswerText;
+use crate::past::Past;
+use crate::reading::{read_call, read_define};
+use crate::texts::{defined_text, note_request, reply_text};
+use bohm_entries::{
+    Definitions, EntryFault, FirstLine, Kind, count_transactions, has_no_definition, is_definition,
+    read_first_line, read_transaction, split_entry,
+};
+use bohm_ledger::{Answer, Machine, MachineFault, Ran};
+use bohm_log::DrawnSeed;
+use bohm_procedures::Calls;
+use bohm_text::{Words, split_line};
+use bohm_txn::Checked;
+use bohm_types::{Cell, Edition, Key, Value};
+use std::alloc::Global;
+
+/// A ledger's machine, whose batches are texts of entries.
+#[derive(Drop)]
+pub struct EntryMachine<P: Past + Drop> {
+    alloc: Global,
+    seed: DrawnSeed,
+    edition: Edition,
+    definitions: Definitions,
+    past: P,
+    /// The number of the last transaction.
+    top: u64,
+}
+
+fn fault_of(fault: EntryFault) -> MachineFault {
+    match fault {
+        EntryFault::Refused(_) => MachineFault::Unreadable,
+        EntryFault::NoMemory => MachineFault::OutOfMemory,
+    }
+}
+
+impl<P: Past + Drop> EntryMachine<P> {
+    /// A machine that has run no entry. Keys are hashed with the seed.
+    pub fn new(alloc: Global, seed: DrawnSeed, past: P) -> EntryMachine<P>
+        ensures { result.past ≡ past }
+    {
+        EntryMachine {
+            alloc,
+            seed,
+            edition: Edition::Two,
+            definitions: Definitions::new(alloc),
+            past,
+            top: 0,
+        }
+    }
+
+    /// Whether the text is one entry that is to be run next. Else the first refusal that applies is
+    /// answered. The time is that of reading it.
+    pub fn admit(&self, entry: &[u8]) -> Result<(), EntryFault>
+        ensures one { OnOk result (entries_of entry.now ≡ whole_lines entry.now ∷ []) }
+        ensures spelled { OnOk result (IsSome (entry_in (record { edition = self.now.edition; procedures = self.now.definitions })
+            (whole_lines entry.now))) }
+    {
+        admit(
+            self.alloc,
+            self.seed,
+            self.edition,
+            &self.definitions,
+            entry,
+        )
+    }
+
+    /// Runs the only transaction of a log. Returns its reply.
+    fn transact(&mut self, log: &Checked) -> Result<Vec<u8>, MachineFault>
+        requires { length log.now.log ≡ 1 }
+        ensures text { IfOk result (λ text. (t : Txn) → log.now.log ≡ t ∷ []
+            → text.items ≡ reply_line (self.old.top + 1) (P.look self.old.past) t) }
+        ensures look { OnOk result ((t : Txn) → log.now.log ≡ t ∷ []
+            → P.look self.new.past ≡ after (P.look self.old.past) t) }
+        ensures saved { OnOk result (P.saved self.new.past ≡ P.saved self.old.past) }
+        ensures top { OnOk result (self.new.top ≡ self.old.top + 1) }
+        ensures definitions { self.new.definitions ≡ self.old.definitions }
+        ensures edition { self.new.edition ≡ self.old.edition }
+    {
+        if self.top == u64::MAX {
+            return Err(MachineFault::Full);
+        }
+        let number = self.top + 1;
+        let replies = self.past.run_one(log)?;
+        let Ok(text) = reply_text(self.alloc, number, &replies) else {
+            return Err(MachineFault::OutOfMemory);
+        };
+        self.top = number;
+        Ok(text)
+    }
+
+    /// Takes a definition in, of which these are the words behind the kind and the id, and the
+    /// lines behind the first one.
+    fn define(&mut self, words: Words<'_>, lines: &[u8]) -> Result<Vec<u8>, MachineFault>
+        ensures ran { IfOk result (λ text. IsRun
+            (state_of self.old.edition self.old.definitions (P.look self.old.past) self.old.top)
+            (define_of words.entry (whole_lines lines.now)) 0
+            (state_of self.new.edition self.new.definitions (P.look self.new.past) self.new.top) text.items) }
+        ensures past { self.new.past ≡ self.old.past }
+        ensures edition { self.new.edition ≡ self.old.edition }
+        ensures top { self.new.top ≡ self.old.top }
+        ensures definitions { OnOk result (self.new.definitions
+            ≡ definitions_with self.old.definitions (define_of words.entry (whole_lines lines.now))) }
+    {
+        let (name, procedure) = match read_define(
+            self.alloc,
+            self.seed,
+            self.edition,
+            words,
+            lines,
+        ) {
+            Ok(definition) => definition,
+            Err(fault) => return Err(fault_of(fault)),
+        };
+        let Ok(text) = defined_text(self.alloc, &name) else {
+            return Err(MachineFault::OutOfMemory);
+        };
+        let Ok(()) = self.definitions.define(name, procedure) else {
+            return Err(MachineFault::OutOfMemory);
+        };
+        Ok(text)
+    }
+
+    /// The log of the call of these words behind the kind and the id.
+    fn call_log(&self, words: Words<'_>) -> Result<Calls, MachineFault>
+        ensures { IfOk result (λ calls. IsLogOf self.now.definitions words.entry calls.log) }
+    {
+        let call = match read_call(self.alloc, &self.definitions, words) {
+            Ok(call) => call,
+            Err(fault) => return Err(fault_of(fault)),
+        };
+        let Ok(mut calls) = self.past.calls(self.edition) else {
+            return Err(MachineFault::OutOfMemory);
+        };
+        let keys = call.arguments.keys.as_slice();
+        let values = call.arguments.values.as_slice();
+        if !calls.takes(call.procedure, keys, values) {
+            return Err(MachineFault::Unreadable);
+        }
+        let Ok(()) = calls.push(call.procedure, keys, values) else {
+            return Err(MachineFault::OutOfMemory);
+        };
+        Ok(calls)
+    }
+
+    /// Runs a call, of which these are the words behind the kind and the id.
+    fn call(&mut self, words: Words<'_>) -> Result<Vec<u8>, MachineFault>
+        ensures ran { IfOk result (λ text. IsRun
+            (state_of self.old.edition self.old.definitions (P.look self.old.past) self.old.top)
+            (called_of self.old.definitions words.entry) 1
+            (state_of self.new.edition self.new.definitions (P.look self.new.past) self.new.top) text.items) }
+        ensures saved { OnOk result (P.saved self.new.past ≡ P.saved self.old.past) }
+    {
+        let calls = self.call_log(words)?;
+        if calls.len() != 1 {
+            return Err(MachineFault::Unreadable);
+        }
+        self.transact(calls.segment())
+    }
+
+    /// Runs a transaction, of which these are the lines behind the first one.
+    fn transaction(&mut self, lines: &[u8]) -> Result<Vec<u8>, MachineFault>
+        ensures ran { IfOk result (λ text. IsRun
+            (state_of self.old.edition self.old.definitions (P.look self.old.past) self.old.top)
+            (transaction_of self.old.edition (whole_lines lines.now)) 1
+            (state_of self.new.edition self.new.definitions (P.look self.new.past) self.new.top) text.items) }
+        ensures saved { OnOk result (P.saved self.new.past ≡ P.saved self.old.past) }
+    {
+        match read_transaction(self.alloc, self.seed, self.edition, lines) {
+            Ok(log) => self.transact(&log),
+            Err(fault) => Err(fault_of(fault)),
+        }
+    }
+
+    /// Runs the entry of these lines, of which the first is read, as its kind asks.
+    fn run_by_kind(&mut self, first: FirstLine<'_>, lines: &[u8]) -> Result<Vec<u8>, MachineFault>
+        ensures ran { IfOk result (λ text. IsRun
+            (state_of self.old.edition self.old.definitions (P.look self.old.past) self.old.top)
+            (entry_by_kind (record { edition = self.old.edition; procedures = self.old.definitions }) first.entry.kind first.entry.rest (whole_lines lines.now))
+            (weight_of first.entry.kind)
+            (state_of self.new.edition self.new.definitions (P.look self.new.past) self.new.top) text.items) }
+        ensures saved { OnOk result (P.saved self.new.past ≡ P.saved self.old.past) }
+    {
+        match first.kind {
+            Kind::Define => self.define(first.rest, lines),
+            Kind::Call => self.call(first.rest),
+            Kind::Transaction => self.transaction(lines),
+        }
+    }
+
+    /// Runs an entry, and adds its answer to those of the ids.
+    fn run_entry(
+        &mut self,
+        entry: &[u8],
+        answers: &mut Vec<Answer>,
+    ) -> Result<AnswerText, MachineFault>
+        ensures ran { IfOk result (λ text. IsRun
+            (state_of self.old.edition self.old.definitions (P.look self.old.past) self.old.top)
+            (entry_in (record { edition = self.old.edition; procedures = self.old.definitions }) (whole_lines entry.now))
+            (weight (whole_lines entry.now))
+            (state_of self.new.edition self.new.definitions (P.look self.new.past) self.new.top) text) }
+        ensures answers { IfOk result (λ text. answers.new.items
+            ≡ answers.old.items ++ request_with (id_in (whole_lines entry.now)) text) }
+        ensures saved { OnOk result (P.saved self.new.past ≡ P.saved self.old.past) }
+    {
+        let Some((line, lines)) = split_line(entry) else {
+            return Err(MachineFault::Unreadable);
+        };
+        let Some(first) = read_first_line(line) else {
+            return Err(MachineFault::Unreadable);
+        };
+        let id = first.id;
+        let text = self.run_by_kind(first, lines)?;
+        let Ok(()) = note_request(self.alloc, answers, id, text.as_slice()) else {
+            return Err(MachineFault::OutOfMemory);
+        };
+        Ok(AnswerText::new(text))
+    }
+
+    /// Takes an entry in, if it is a definition.
+    fn pass_entry(&mut self, entry: &[u8]) -> Result<(), MachineFault>
+        ensures definitions { OnOk result (self.new.definitions ≡ definitions_with self.old.definitions
+            (entry_in (record { edition = self.old.edition; procedures = self.old.definitions }) (whole_lines entry.now))) }
+        ensures past { self.new.past ≡ self.old.past }
+        ensures edition { self.new.edition ≡ self.old.edition }
+        ensures top { self.new.top ≡ self.old.top }
+    {
+        if !is_definition(entry) {
+            return Ok(());
+        }
+        let Some((line, lines)) = split_line(entry) else {
+            return Err(MachineFault::Unreadable);
+        };
+        let Some(first) = read_first_line(line) else {
+            return Err(MachineFault::Unreadable);
+        };
+        let Kind::Define = first.kind else {
+            return Err(MachineFault::Unreadable);
+        };
+        let _ = self.define(first.rest, lines)?;
+        Ok(())
+    }
+}
+
+impl<P: Past + Drop> Machine for EntryMachine<P> {
+    ghost use Rattle.std.specs.Prelude.{List, ℕ};
+    ghost use Rattle.bohm_entries.specs.Batches.{Defined, entries_of};
+    ghost use Rattle.bohm_replay.specs.Entries.{answers_by, entry_rules, state_of};
+    ghost use Rattle.bohm_replay.specs.Ruling.{are_rules};
+
+    type Reply = AnswerText;
+
+    ghost Defs = { Defined };
+
+    ghost rules = { entry_rules };
+
+    ghost replies = { λ s text. answers_by s (entries_of text) };
+
+    ghost state = { λ m. state_of m.edition m.definitions (P.look m.past) m.top };
+
+    ghost saved = { λ m. P.saved m.past };
+
+    fn top(&self) -> u64 {
+        self.top
+    }
+
+    fn size(&self, batch: &[u8]) -> usize {
+        count_transactions(batch)
+    }
+
+    fn is_plain(&self, batch: &[u8]) -> bool {
+        has_no_definition(batch)
+    }
+
+    fn start(
+        &mut self,
+        edition: Edition,
+        store: &[(Key, Value)],
+        top: u64,
+    ) -> Result<(), MachineFault> {
+        self.past.start(store)?;
+        self.edition = edition;
+        self.definitions = Definitions::new(self.alloc);
+        self.top = top;
+        Ok(())
+    }
+
+    fn pass(&mut self, batch: &[u8]) -> Result<(), MachineFault> {
+        let mut rest = batch;
+        'entries: while let Some((entry, others)) = split_entry(rest) {
+            self.pass_entry(entry)?;
+            rest = others;
+        }
+        if rest.is_empty() {
+            Ok(())
+        } else {
+            Err(MachineFault::Unreadable)
+        }
+    }
+
+    fn run(&mut self, alloc: Global, batch: &[u8]) -> Result<Ran<AnswerText>, MachineFault> {
+        self.past.renew()?;
+        let mut replies = Vec::new(alloc);
+        let mut answers = Vec::new(alloc);
+        let mut rest = batch;
+        'entries: while let Some((entry, others)) = split_entry(rest) {
+            let reply = self.run_entry(entry, &mut answers)?;
+            replies.push(reply)?;
+            rest = others;
+        }
+        if rest.is_empty() {
+            Ok(Ran { replies, answers })
+        } else {
+            Err(MachineFault::Unreadable)
+        }
+    }
+
+    fn changed(&self) -> &[Key] {
+        self.past.changed()
+    }
+
+    fn value(&self, key: &Key) -> Cell {
+        self.past.value(key)
+    }
+
+    fn saved_value(&self, key: &Key) -> Cell {
+        self.past.saved_value(key)
+    }
+
+    fn note_checkpoint(&mut self) {
+        self.past.note_checkpoint();
+    }
+
+    ghost keeps_rules = { are_rules };
+}
