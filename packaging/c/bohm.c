@@ -25,11 +25,16 @@ uint32_t proved_bohm_apply_held(bohm_machine *machine, const uint8_t *text, size
 uint32_t proved_bohm_rows(bohm_machine *machine, bohm_reply_rows *rows, bohm_values *values);
 uint32_t proved_bohm_value_at(bohm_machine *machine, const uint8_t *key, size_t len, uint32_t ts, uint8_t *present, int64_t *value);
 uint32_t proved_bohm_store_at(bohm_machine *machine, uint32_t ts, bohm_bytes *out);
+uint32_t proved_bohm_open_rows(bohm_machine *machine, const uint8_t *seed, const bohm_entry *entries, size_t count, uint32_t top);
+uint32_t proved_bohm_store_rows(bohm_machine *machine, uint32_t ts, bohm_entries *out);
+uint32_t proved_bohm_compact(bohm_machine *machine);
 uint32_t proved_bohm_digest(bohm_machine *machine, uint32_t ts, uint8_t *digest);
 uint32_t proved_bohm_trim(bohm_machine *machine, uint32_t floor);
 uint32_t proved_bohm_timestamps(bohm_machine *machine, uint32_t *floor, uint32_t *top);
 uint32_t proved_bohm_counts(bohm_machine *machine, bohm_machine_counts *counts);
 uint32_t proved_bohm_prepare(bohm_procedure *procedure, const uint8_t *seed, const uint8_t *text, size_t len, bohm_bytes *out);
+uint32_t proved_bohm_prepare_report(bohm_procedure *procedure, const uint8_t *seed, const uint8_t *text, size_t len, bohm_bytes *out);
+uint32_t proved_bohm_statement_text(bohm_procedure *procedure, uint32_t statement, size_t *line, bohm_bytes *out);
 uint32_t proved_bohm_open_calls(bohm_calls *calls, const uint8_t *seed, uint32_t edition);
 uint32_t proved_bohm_open_calls_for(bohm_machine *machine, bohm_calls *calls, uint32_t edition);
 uint32_t proved_bohm_push(bohm_calls *calls, bohm_procedure *procedure, const bohm_key *keys, size_t key_count, const int64_t *values, size_t value_count);
@@ -38,6 +43,12 @@ uint32_t proved_bohm_push_named(bohm_calls *calls, bohm_procedure *procedure, co
 uint32_t proved_bohm_run_calls(bohm_machine *machine, bohm_calls *calls, bohm_bytes *out);
 uint32_t proved_bohm_run_calls_held(bohm_machine *machine, bohm_calls *calls);
 uint32_t proved_bohm_clear_calls(bohm_calls *calls);
+uint32_t proved_bohm_calls_text(bohm_calls *calls, bohm_bytes *out);
+uint32_t proved_bohm_takes(bohm_calls *calls, bohm_procedure *procedure, size_t key_count, size_t value_count);
+uint32_t proved_bohm_fits(bohm_machine *machine, bohm_procedure *procedure, size_t key_count, size_t value_count);
+uint32_t proved_bohm_call(bohm_machine *machine, bohm_procedure *procedure, const bohm_key *keys, size_t key_count, const int64_t *values, size_t value_count, bohm_reply *row, int64_t *shown, size_t room);
+uint32_t proved_bohm_call_named(bohm_machine *machine, bohm_procedure *procedure, const uint32_t *handles, size_t handle_count, const int64_t *values, size_t value_count, bohm_reply *row, int64_t *shown, size_t room);
+uint32_t proved_bohm_machine_key(bohm_machine *machine, const uint8_t *key, size_t len, uint32_t *handle);
 void proved_bohm_close(void *handle);
 
 /* The pointer that is passed for no elements: the proved calls don't accept null, and read nothing there. */
@@ -106,9 +117,10 @@ const char *bohm_status_text(uint32_t status) {
         [BOHM_NO_KEY] = "the bytes are not a key",
         [BOHM_WAITING] = "replies of an earlier segment were not taken yet",
         [BOHM_STOPPED] = "an allocation failed after part of the segment had run",
-        [BOHM_KEPT] = "the text of the replies could not be allocated",
-        [BOHM_UNFIT] = "an edition, a number of arguments or the number of calls is not acceptable",
+        [BOHM_KEPT] = "there was no room for the replies, which wait",
+        [BOHM_UNFIT] = "an edition, a statement, or a number of arguments or calls is not acceptable",
         [BOHM_MISUSE] = "a handle or a pointer is not valid for the call",
+        [BOHM_UNSORTED] = "the keys are not in rising order",
     };
     return status < sizeof texts / sizeof *texts ? texts[status] : "unknown status";
 }
@@ -183,6 +195,28 @@ uint32_t bohm_store_at(const bohm_machine *machine, uint32_t ts, bohm_bytes *out
     return hand_out(out, told, status);
 }
 
+uint32_t bohm_open_rows(bohm_machine *machine, const uint8_t seed[16], const bohm_entry *entries, size_t count,
+                        uint32_t top) {
+    if (!machine || !seed || !is_array(entries, count)) return BOHM_MISUSE;
+    return proved_bohm_open_rows(machine, seed, array_of(entries), count, top);
+}
+
+uint32_t bohm_store_rows(const bohm_machine *machine, uint32_t ts, bohm_entries *out) {
+    if (!machine) return BOHM_MISUSE;
+    bohm_machine held = *machine;
+    bohm_entries told = {NOWHERE, 0};
+    uint32_t status = proved_bohm_store_rows(&held, ts, &told);
+    if (status) return status;
+    if (!told.len) told.at = 0;
+    if (out) *out = told;
+    else bohm_free(told.at);
+    return status;
+}
+
+uint32_t bohm_compact(bohm_machine *machine) {
+    return machine ? proved_bohm_compact(machine) : BOHM_MISUSE;
+}
+
 uint32_t bohm_digest(const bohm_machine *machine, uint32_t ts, uint8_t digest[32]) {
     if (!machine || !digest) return BOHM_MISUSE;
     bohm_machine held = *machine;
@@ -204,10 +238,20 @@ uint32_t bohm_timestamps(const bohm_machine *machine, uint32_t *floor, uint32_t 
     return status;
 }
 
-uint32_t bohm_counts(const bohm_machine *machine, bohm_machine_counts *counts) {
+uint32_t bohm_counts_sized(const bohm_machine *machine, bohm_machine_counts *counts, size_t size) {
     if (!machine || !counts) return BOHM_MISUSE;
     bohm_machine held = *machine;
-    return proved_bohm_counts(&held, counts);
+    bohm_machine_counts known = {0};
+    uint32_t status = proved_bohm_counts(&held, &known);
+    if (status) return status;
+    for (size_t i = 0; i < size; i++) ((uint8_t *)counts)[i] = i < sizeof known ? ((const uint8_t *)&known)[i] : 0;
+    return status;
+}
+
+/* What programs call that were built with the header of 0.2.0, which has the first four counts. */
+#undef bohm_counts
+uint32_t bohm_counts(const bohm_machine *machine, bohm_machine_counts *counts) {
+    return bohm_counts_sized(machine, counts, __builtin_offsetof(bohm_machine_counts, names));
 }
 
 void bohm_close(bohm_machine *machine) {
@@ -220,6 +264,22 @@ uint32_t bohm_prepare(bohm_procedure *procedure, const uint8_t seed[16], const u
     bohm_bytes told = {NOWHERE, 0};
     uint32_t status = proved_bohm_prepare(procedure, seed, array_of(text), len, &told);
     return status ? hand_out(out, told, status) : status;
+}
+
+uint32_t bohm_prepare_report(bohm_procedure *procedure, const uint8_t seed[16], const uint8_t *text, size_t len,
+                             bohm_bytes *out) {
+    if (!procedure || !seed || !is_array(text, len)) return BOHM_MISUSE;
+    bohm_bytes told = {NOWHERE, 0};
+    uint32_t status = proved_bohm_prepare_report(procedure, seed, array_of(text), len, &told);
+    return status ? hand_out(out, told, status) : status;
+}
+
+uint32_t bohm_statement_text(const bohm_procedure *procedure, uint32_t statement, size_t *line, bohm_bytes *out) {
+    if (!procedure || !line) return BOHM_MISUSE;
+    bohm_procedure held = *procedure;
+    bohm_bytes told = {NOWHERE, 0};
+    uint32_t status = proved_bohm_statement_text(&held, statement, line, &told);
+    return hand_out(out, told, status);
 }
 
 void bohm_close_procedure(bohm_procedure *procedure) {
@@ -236,25 +296,32 @@ uint32_t bohm_open_calls_for(const bohm_machine *machine, bohm_calls *calls, uin
     return proved_bohm_open_calls_for(&held, calls, edition);
 }
 
-/* BOHM_DONE if no key's pointer is null, BOHM_MISUSE if a null one has a length, and otherwise BOHM_NO_KEY. */
-static uint32_t look_at(const bohm_key *keys, size_t count) {
-    uint32_t status = BOHM_DONE;
-    for (size_t i = 0; i < count; i++) {
-        if (keys[i].at) continue;
-        if (keys[i].len) return BOHM_MISUSE;
-        status = BOHM_NO_KEY;
+/* The most keys that a procedure has. */
+#define MOST_KEYS 32
+
+/* The keys themselves if no pointer is null. Else a copy in `room`, in which null pointers to no bytes are replaced, or null
+ * if a null pointer has a length. There are at most MOST_KEYS. */
+static const bohm_key *pointed(const bohm_key *keys, size_t count, bohm_key room[MOST_KEYS]) {
+    size_t i = 0;
+    while (i < count && keys[i].at) i++;
+    if (i == count) return array_of(keys);
+    for (i = 0; i < count; i++) {
+        if (!keys[i].at && keys[i].len) return 0;
+        room[i] = (bohm_key){array_of(keys[i].at), keys[i].len};
     }
-    return status;
+    return room;
 }
 
 uint32_t bohm_push(bohm_calls *calls, const bohm_procedure *procedure, const bohm_key *keys, size_t key_count,
                    const int64_t *values, size_t value_count) {
     if (!calls || !procedure || !is_array(keys, key_count) || !is_array(values, value_count)) return BOHM_MISUSE;
-    if (!calls->at || !procedure->at) return BOHM_MISUSE;
-    uint32_t status = look_at(keys, key_count);
-    if (status) return status;
     bohm_procedure held = *procedure;
-    return proved_bohm_push(calls, &held, array_of(keys), key_count, array_of(values), value_count);
+    bohm_key room[MOST_KEYS];
+    /* The keys are counted before any is read. */
+    uint32_t status = proved_bohm_takes(calls, &held, key_count, value_count);
+    if (status) return status;
+    keys = pointed(keys, key_count, room);
+    return keys ? proved_bohm_push(calls, &held, keys, key_count, array_of(values), value_count) : BOHM_MISUSE;
 }
 
 uint32_t bohm_key_handle(bohm_calls *calls, const uint8_t *key, size_t len, uint32_t *handle) {
@@ -284,6 +351,42 @@ uint32_t bohm_run_calls_held(bohm_machine *machine, const bohm_calls *calls) {
     if (!machine || !calls) return BOHM_MISUSE;
     bohm_calls held = *calls;
     return proved_bohm_run_calls_held(machine, &held);
+}
+
+uint32_t bohm_calls_text(const bohm_calls *calls, bohm_bytes *out) {
+    if (!calls) return BOHM_MISUSE;
+    bohm_calls held = *calls;
+    bohm_bytes told = {NOWHERE, 0};
+    uint32_t status = proved_bohm_calls_text(&held, &told);
+    return hand_out(out, told, status);
+}
+
+uint32_t bohm_call(bohm_machine *machine, const bohm_procedure *procedure, const bohm_key *keys, size_t key_count,
+                   const int64_t *values, size_t value_count, bohm_reply *row, int64_t *shown, size_t room) {
+    if (!machine || !procedure || !is_array(keys, key_count) || !is_array(values, value_count)) return BOHM_MISUSE;
+    if (!row || !is_array(shown, room)) return BOHM_MISUSE;
+    bohm_procedure held = *procedure;
+    bohm_key copies[MOST_KEYS];
+    uint32_t status = proved_bohm_fits(machine, &held, key_count, value_count);
+    if (status) return status;
+    keys = pointed(keys, key_count, copies);
+    if (!keys) return BOHM_MISUSE;
+    return proved_bohm_call(machine, &held, keys, key_count, array_of(values), value_count, row, array_of(shown), room);
+}
+
+uint32_t bohm_machine_key(bohm_machine *machine, const uint8_t *key, size_t len, uint32_t *handle) {
+    if (!machine || !is_array(key, len) || !handle) return BOHM_MISUSE;
+    return proved_bohm_machine_key(machine, array_of(key), len, handle);
+}
+
+uint32_t bohm_call_named(bohm_machine *machine, const bohm_procedure *procedure, const uint32_t *handles,
+                         size_t handle_count, const int64_t *values, size_t value_count, bohm_reply *row, int64_t *shown,
+                         size_t room) {
+    if (!machine || !procedure || !is_array(handles, handle_count) || !is_array(values, value_count)) return BOHM_MISUSE;
+    if (!row || !is_array(shown, room)) return BOHM_MISUSE;
+    bohm_procedure held = *procedure;
+    return proved_bohm_call_named(machine, &held, array_of(handles), handle_count, array_of(values), value_count, row,
+                                  array_of(shown), room);
 }
 
 uint32_t bohm_clear_calls(bohm_calls *calls) {

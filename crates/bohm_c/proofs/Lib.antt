@@ -1,3 +1,4 @@
+mod Alike
 mod Values
 mod Handles
 mod LeftStore
@@ -6,3 +7,6 @@ mod Snapshots
 mod Opening
 mod Ran
 mod Numbered
+mod Texts
+mod EntryRows
+mod Seams

@@ -1,5 +1,5 @@
 -- What the functions on procedures, and on lists of their calls, guarantee.
-use Rattle.std.specs.Prelude.{◌≡◌, ℕ, ℤ, List}
+use Rattle.std.specs.Prelude.{◌≡◌, ℕ, ℤ, ◌+◌, ◌<◌, ◌≤◌, ◌^◌, List, [], ◌∷◌, ◌++◌, length}
 use Rattle.bohm_types.specs.Appending.{with_txn}
 use Rattle.bohm_types.specs.Procedure.{Procedure, instance}
 use Rattle.bohm_text.specs.Cut.{whole_lines}
@@ -12,6 +12,12 @@ use Rattle.bohm_procedures.specs.declared.fault.ProcedureFault.TheVariants as fa
 use Rattle.bohm_answer.specs.FaultLine.{fault_line}
 use Rattle.bohm_answer.specs.declared.fault.RunFault.{RunFault}
 use Rattle.bohm_answer.specs.declared.fault.RunFault.TheVariants as runs
+use Rattle.bohm_txn.specs.declared.outcome.Reply.{Reply}
+use Rattle.bohm_txn.specs.Meaning.{body}
+use Rattle.bohm_txn.specs.Serial.{reply_of}
+use Rattle.bohm_store.specs.Versions.{Timeline}
+use Rattle.bohm_machine.specs.Machines.{GoesOn, now_of, top_of}
+use Rattle.bohm_machine.specs.Segments.{RunsOn}
 use Rattle.bohm_c.specs.Listed.{Listed}
 
 -- the text is that of this accepted procedure
@@ -47,7 +53,35 @@ pub record IsProcedureRefusal (text line : List ℕ) : Type 0 where
   pub faulty : HasProcedureFault text fault
   pub says : line ≡ fault_line (told_as fault)
 
+-- these bytes begin with that line, and messages may follow
+pub record IsProcedureReport (text report : List ℕ) : Type 0 where
+  pub line : List ℕ
+  pub refusal : IsProcedureRefusal text line
+  pub messages : List ℕ
+  pub begins : report ≡ line ++ messages
+
 -- the list had room for one more call, and the procedure's instance is appended; handles keep their keys
 pub record IsPushed (p : Procedure) (ks : List (List ℕ)) (vs : List ℤ) (was now : Listed) : Type 0 where
   pub takes : Takes was.calls p ks vs
   pub grown : now ≡ record { calls = with_txn was.calls (instance p ks vs); names = was.names }
+
+-- ---- a call on a machine, without a list
+
+-- the procedure has this many parameters of each kind
+pub record Fits (p : Procedure) (key_count value_count : ℕ) : Type 0 where
+  pub keys : key_count ≡ length p.keys
+  pub values : value_count ≡ length p.values
+
+-- the reply of a call that runs next on a machine
+abbrev pub reply_now : Timeline → Procedure → List (List ℕ) → List ℤ → Reply
+reply_now m p ks vs = reply_of (body (now_of m) (instance p ks vs))
+
+-- the machine ran the call as a segment of its own
+pub record Ran (was now : Timeline) (p : Procedure) (ks : List (List ℕ)) (vs : List ℤ) : Type 0 where
+  pub timestamps : top_of was + 1 < 2 ^ 32
+  pub goes_on : GoesOn was now (instance p ks vs ∷ []) (reply_now was p ks vs ∷ [])
+  pub runs_on : RunsOn was now (instance p ks vs ∷ []) (reply_now was p ks vs ∷ [])
+
+-- the machine's timestamps are used up
+abbrev pub HasNoTime : Timeline → Type 0
+HasNoTime m = 2 ^ 32 ≤ top_of m + 1

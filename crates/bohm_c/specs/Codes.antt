@@ -77,5 +77,6 @@ reply_code = code_by (Result (List ℤ) (Reason × ℕ)) (coded_result (coded_li
 -- ---- what a handle keeps
 
 abbrev pub keeper_code : Coded Session
-keeper_code = code_by (Timeline × (List Reply × ℕ)) (coded× timeline_code (coded× (coded_list reply_code) coded_ℕ)) (λ k. (k.machine, (k.waiting, k.behind)))
-    (λ p. record { machine = p.0; waiting = p.1.0; behind = p.1.1 }) (λ _. refl)
+keeper_code = code_by (Timeline × (List Reply × (ℕ × List (List ℕ))))
+    (coded× timeline_code (coded× (coded_list reply_code) (coded× coded_ℕ (coded_list (coded_list coded_ℕ)))))
+    (λ k. (k.machine, (k.waiting, (k.behind, k.single)))) (λ p. record { machine = p.0; waiting = p.1.0; behind = p.1.1.0; single = p.1.1.1 }) (λ _. refl)

@@ -2,6 +2,7 @@
 use Rattle.std.specs.Prelude.{◌≡◌, ℕ, ℤ, ◌+◌, ◌<◌, ◌≤◌, Bool, true, false, List, [], length, max, min, take}
 use Rattle.std.specs.FinMap.{entries}
 use Rattle.bohm_types.specs.Document.{Document}
+use Rattle.bohm_types.specs.Sound.{IsDocument}
 use Rattle.bohm_types.specs.declared.cell.Cell.{Cell}
 use Rattle.bohm_types.specs.declared.cell.Cell.TheVariants.{Absent, Present}
 use Rattle.bohm_txn.specs.declared.outcome.Reply.{Reply}
@@ -9,25 +10,27 @@ use Rattle.bohm_txn.specs.Faulty.{WellFormed}
 use Rattle.bohm_txn.specs.Stores.{cell_in, store_of}
 use Rattle.bohm_text.specs.Print.{print_doc, print_numbered}
 use Rattle.bohm_answer.specs.Answer.{answer_of}
-use Rattle.bohm_store.specs.Versions.{Timeline, most_counted, total}
+use Rattle.bohm_store.specs.Versions.{Timeline, kept_versions, most_counted, total, versions}
 use Rattle.bohm_machine.specs.Machines.{GoesOn, HasRun, floor_of, past_of, top_of}
 use Rattle.bohm_machine.specs.Segments.{AreWholeBatches, IsTaken, RunsOn, IsRefused as IsUntakenBy}
 use Rattle.bohm_machine.specs.declared.fault.SegmentFault.{SegmentFault}
 use Rattle.bohm_answer.specs.declared.fault.RunFault.TheVariants.{NoMemory}
-use Rattle.bohm_c.specs.declared.session.BohmCounts.{BohmCounts}
+use Rattle.bohm_c.specs.declared.counts.BohmCounts.{BohmCounts}
 use Rattle.bohm_c.specs.declared.session.Session.{Session}
 use Rattle.bohm_c.specs.declared.session.OpenFault.{OpenFault}
 use Rattle.bohm_c.specs.declared.session.OpenFault.TheVariants.{Text, HasLog}
 use Rattle.bohm_c.specs.Reading.{IsRead, IsRefused, snapshot_of}
 use Rattle.bohm_types.specs.Limits.{largest_batch}
 
--- a machine on a snapshot's store, as it was at a timestamp, and no reply is waiting
+-- a machine on a snapshot's store, as it was at a timestamp: each key has one version, no reply is waiting, and no handle was made
 pub record IsOpened (snapshot : Document) (start : ℕ) (session : Session) : Type 0 where
   pub alone : snapshot.log ≡ []
   pub top : top_of session.machine ≡ start
   pub floor : floor_of session.machine ≡ start
   pub run : HasRun (cell_in (store_of snapshot.store)) start [] session.machine
+  pub count : total session.machine.chains ≡ length snapshot.store
   pub handed : session.waiting ≡ []
+  pub names : session.single ≡ []
 
 -- such a machine, on the snapshot that the text is
 pub record IsOpening (text : List ℕ) (start : ℕ) (session : Session) : Type 0 where
@@ -40,13 +43,14 @@ abbrev pub IsUnopened : Document → OpenFault → Type 0
 IsUnopened snapshot (Text fault) = (snapshot.log ≡ []) × (fault ≡ NoMemory)
 IsUnopened snapshot HasLog = 0 < length snapshot.log
 
--- no reply was waiting, and whole batches of a segment were run, with these replies
+-- no reply was waiting, and whole batches of a segment were run, with these replies; handles keep their keys
 pub record IsRun (was now : Session) (segment : Document) (answered : List Reply) : Type 0 where
   pub waited : was.waiting ≡ []
   pub taken : IsTaken was.machine segment
   pub goes_on : GoesOn was.machine now.machine (take (length answered) segment.log) answered
   pub runs_on : RunsOn was.machine now.machine (take (length answered) segment.log) answered
   pub batches : 0 < length answered → AreWholeBatches segment.log largest_batch (length answered)
+  pub names : now.single ≡ was.single
 
 -- the whole segment was run, and the text of the replies is returned
 pub record IsRunWhole (was now : Session) (segment : Document) (answer : List ℕ) : Type 0 where
@@ -144,20 +148,27 @@ pub record IsSnapshot (m : Timeline) (ts : ℕ) (text : List ℕ) : Type 0 where
   pub readable : IsReadable m ts
   pub holds : cell_in (store_of store) ≡ past_of m ts
   pub listed : store ≡ entries (store_of store)
+  pub sound : IsDocument (snapshot_of store)
   pub formed : WellFormed (snapshot_of store)
   pub printed : text ≡ print_doc (snapshot_of store)
 
--- these are the machine's counts
+-- these are the machine's counts. Nothing is said of the bytes
 pub record HasCounts (session : Session) (counts : BohmCounts) : Type 0 where
   pub floor : counts.floor ≡ floor_of session.machine
   pub top : counts.top ≡ top_of session.machine
   pub versions : counts.versions ≡ min (total session.machine.chains) most_counted
   pub waiting : counts.waiting ≡ length session.waiting
+  pub names : counts.names ≡ length session.machine.chains
+  pub left : counts.top + counts.left ≡ 4294967295
 
--- the past from the new floor on is unchanged, and so are the waiting replies
+-- the past from the new floor on is unchanged, and so are waiting replies and handles; versions that ended below the floor are gone
 pub record IsTrimmed (was now : Session) (least : ℕ) : Type 0 where
   pub floor : floor_of now.machine ≡ max (floor_of was.machine) least
   pub top : top_of now.machine ≡ top_of was.machine
   pub past : (ts : ℕ) → floor_of now.machine ≤ ts → past_of now.machine ts ≡ past_of was.machine ts
+  pub dropped : floor_of was.machine < least → (k : List ℕ) → versions now.machine k ≡ kept_versions least (versions was.machine k)
+  pub same : least ≤ floor_of was.machine → (k : List ℕ) → versions now.machine k ≡ versions was.machine k
+  pub count : total now.machine.chains ≤ total was.machine.chains
   pub waiting : now.waiting ≡ was.waiting
   pub behind : now.behind ≡ was.behind
+  pub names : now.single ≡ was.single

@@ -7,3 +7,6 @@ pub mod CallCodes
 pub mod Rows
 pub mod Kept
 pub mod Handles
+pub mod Entries
+pub mod Singles
+pub mod Agreeing

@@ -1,5 +1,5 @@
 -- The document that a text is read as, and why a text is refused.
-use Rattle.std.specs.Prelude.{◌≡◌, ℕ, ℤ, ◌<◌, List, [], length}
+use Rattle.std.specs.Prelude.{◌≡◌, ℕ, ℤ, ◌<◌, ◌≤◌, List, [], length}
 use Rattle.bohm_types.specs.Document.{Document}
 use Rattle.bohm_types.specs.Sound.{IsDocument}
 use Rattle.bohm_types.specs.declared.edition.Edition.TheVariants.{One}
@@ -14,14 +14,16 @@ use Rattle.bohm_answer.specs.declared.fault.RunFault.{RunFault}
 use Rattle.bohm_answer.specs.declared.fault.RunFault.TheVariants.{Read, TooLong, Text, Check, Trimmed, Future, NoMemory, Write}
 use Rattle.bohm_types.specs.Limits.{longest_text}
 
--- the text is that of this well-formed document
+-- the text is that of this well-formed document, and not too long
 pub record IsRead (text : List ℕ) (document : Document) : Type 0 where
+  pub short : length text ≤ longest_text
   pub sound : IsDocument document
   pub well_formed : WellFormed document
   pub printed : print_doc document ≡ text
 
--- the text is that of a document with this first fault
+-- the text is that of a document with this first fault, and not too long
 pub record IsFaulty (text : List ℕ) (fault : CheckFault) : Type 0 where
+  pub short : length text ≤ longest_text
   pub document : Document
   pub sound : IsDocument document
   pub printed : print_doc document ≡ text
@@ -31,8 +33,8 @@ pub record IsFaulty (text : List ℕ) (fault : CheckFault) : Type 0 where
 abbrev pub HasFault : List ℕ → RunFault → Type 0
 HasFault text Read = ⊥
 HasFault text TooLong = longest_text < length text
-HasFault text (Text (texts.Line n)) = IsFirstBadLine (whole_lines text) n
-HasFault text (Text texts.Short) = IsShort text
+HasFault text (Text (texts.Line n)) = (length text ≤ longest_text) × IsFirstBadLine (whole_lines text) n
+HasFault text (Text texts.Short) = (length text ≤ longest_text) × IsShort text
 HasFault text (Text texts.NoMemory) = ⊥
 HasFault text (Check fault) = IsFaulty text fault
 HasFault text Trimmed = ⊥

@@ -6,6 +6,7 @@ ghost use Rattle.bohm_txn.specs.Serial.{replies};
 ghost use Rattle.bohm_txn.specs.Stores.{cell_in, store_after, store_of};
 ghost use Rattle.bohm_answer.specs.Answer.{answer_of};
 
+use crate::handing::Text;
 use bohm_apply::SerialExecutor;
 use bohm_hints::IndexHints;
 use bohm_log::DrawnSeed;
@@ -38,9 +39,9 @@ fn executed(
 }
 
 /// The text of a log's answer.
-pub fn answer(alloc: Global, seed: DrawnSeed, checked: &Checked) -> Result<Vec<u8>, NoMemory>
-    ensures { IfOk result (λ text. text.items ≡ answer_of checked.now (length checked.now.log)) }
+pub fn answer(alloc: Global, seed: DrawnSeed, checked: &Checked) -> Result<Text, NoMemory>
+    ensures { IfOk result (λ text. text ≡ answer_of checked.now (length checked.now.log)) }
 {
     let (replies, store) = executed(alloc, seed, checked)?;
-    print_answer(alloc, &replies, store.as_slice())
+    Text::new(print_answer(alloc, &replies, store.as_slice())?)
 }

@@ -1,12 +1,12 @@
-//! The C functions that prepare procedures, and those that add and run their calls.
+//! The C functions that add and run calls of procedures.
 
-ghost use Rattle.std.specs.Prelude.{◌≡◌, ◌≢◌, ◌<◌, ◌⊎◌, ◌↔◌, length, map, None, Some};
+ghost use Rattle.std.specs.Prelude.{◌≡◌, ◌≢◌, ◌<◌, ◌⊎◌, ◌↔◌, [], length, map, None, Some};
 ghost use Rattle.std.specs.List.{Any};
 ghost use Rattle.bohm_types.specs.Name.{key_of};
 ghost use Rattle.bohm_machine.specs.Segments.{IsRefused};
 ghost use Rattle.bohm_machine.specs.declared.fault.SegmentFault.TheVariants as segment_is;
 ghost use Rattle.bohm_procedures.specs.Accepting.{Takes};
-ghost use Rattle.bohm_c.specs.Calling.{IsPrepared, IsProcedureRefusal, IsPushed};
+ghost use Rattle.bohm_c.specs.Calling.{IsPushed};
 ghost use Rattle.bohm_c.specs.Handles.{IsCallList, IsMachine, IsProcedure};
 ghost use Rattle.bohm_c.specs.Handles.{OnCalls, OnMachine, OnProcedure};
 ghost use Rattle.bohm_c.specs.Keeping.{IsRunKept, IsRunPartly, IsRunWhole};
@@ -14,45 +14,9 @@ ghost use Rattle.bohm_c.specs.Keeping.{IsRunKept, IsRunPartly, IsRunWhole};
 use crate::call_list::PushFault;
 use crate::handle::{BohmHandle, put_back, take_back};
 use crate::kept::Kept;
-use crate::prepared::{prepare, refuse_procedure};
-use crate::seeds::draw;
-use crate::status::{
-    DONE, KEPT, MISUSE, NO_KEY, NO_MEMORY, REFUSED, STOPPED, TIMESTAMPS, UNFIT, WAITING,
-};
+use crate::key_fault::KeyFault;
+use crate::status::{DONE, KEPT, MISUSE, NO_KEY, NO_MEMORY, STOPPED, TIMESTAMPS, UNFIT, WAITING};
 use std::alloc::Global;
-
-/// Parses a procedure's text, hashing its names with the seed, and opens its handle.
-#[unsafe(no_mangle)]
-pub extern "C" fn bohm_prepare<'a>(
-    alloc: Global,
-    procedure: &mut BohmHandle,
-    seed: &[u8; 16],
-    text: &[u8],
-    out: &mut &'a mut [u8],
-) -> u32
-    ensures status { (result ≡ DONE) ⊎ (result ≡ REFUSED) ⊎ (result ≡ NO_MEMORY)
-        ⊎ (result ≡ MISUSE) }
-    ensures misuse { (result ≡ MISUSE) ↔ (procedure.old.value ≢ None) }
-    ensures done { result ≡ DONE → OnProcedure procedure.new.value (IsPrepared text.now) }
-    ensures refused { result ≡ REFUSED → IsProcedureRefusal text.now out.new.now }
-    ensures unchanged { 0 < result → procedure.new.value ≡ procedure.old.value }
-    ensures untouched { result ≢ REFUSED → out.new ≡ out.old }
-{
-    if let Some(kept) = take_back(alloc, procedure) {
-        put_back(procedure, kept);
-        return MISUSE;
-    }
-    match prepare(alloc, draw(seed), text) {
-        Ok(prepared) => match Box::new(alloc, Kept::Prepared(prepared)) {
-            Ok(kept) => {
-                put_back(procedure, kept);
-                DONE
-            }
-            Err(_) => NO_MEMORY,
-        },
-        Err(fault) => refuse_procedure(alloc, fault, text, out),
-    }
-}
 
 /// Adds the call of a procedure to a list; `MISUSE` if either is something else.
 fn push_on(calls: &mut Kept, procedure: &Kept, keys: &[&[u8]], values: &[i64]) -> u32
@@ -66,6 +30,9 @@ fn push_on(calls: &mut Kept, procedure: &Kept, keys: &[&[u8]], values: &[i64]) -
         OnCalls (Some calls.new) (λ now.
         IsPushed p (map (λ k. k.now) keys.now) values.now was now))) }
     ensures no_key { result ≡ NO_KEY → Any (λ k. key_of k.now ≡ None) keys.now }
+    ensures fits { result ≡ NO_KEY → OnProcedure (Some procedure.now) (λ p.
+        OnCalls (Some calls.old) (λ was.
+        Takes was.calls p (map (λ k. k.now) keys.now) values.now)) }
     ensures unfit { result ≡ UNFIT → OnProcedure (Some procedure.now) (λ p.
         OnCalls (Some calls.old) (λ was.
         ¬ Takes was.calls p (map (λ k. k.now) keys.now) values.now)) }
@@ -79,9 +46,9 @@ fn push_on(calls: &mut Kept, procedure: &Kept, keys: &[&[u8]], values: &[i64]) -
     };
     match list.push(procedure, keys, values) {
         Ok(()) => DONE,
-        Err(PushFault::NoKey) => NO_KEY,
         Err(PushFault::Unfit) => UNFIT,
-        Err(PushFault::NoMemory) => NO_MEMORY,
+        Err(PushFault::Key(KeyFault::NoKey)) => NO_KEY,
+        Err(PushFault::Key(KeyFault::NoMemory)) => NO_MEMORY,
     }
 }
 
@@ -105,6 +72,9 @@ pub extern "C" fn bohm_push(
         OnCalls calls.new.value (λ now.
         IsPushed p (map (λ k. k.now) keys.now) values.now was now))) }
     ensures no_key { result ≡ NO_KEY → Any (λ k. key_of k.now ≡ None) keys.now }
+    ensures fits { result ≡ NO_KEY → OnProcedure procedure.old.value (λ p.
+        OnCalls calls.old.value (λ was.
+        Takes was.calls p (map (λ k. k.now) keys.now) values.now)) }
     ensures unfit { result ≡ UNFIT → OnProcedure procedure.old.value (λ p.
         OnCalls calls.old.value (λ was.
         ¬ Takes was.calls p (map (λ k. k.now) keys.now) values.now)) }
@@ -145,6 +115,8 @@ fn run_on<'a>(machine: &mut Kept, alloc: Global, calls: &Kept, out: &mut &'a mut
         OnCalls (Some calls.now) (λ list. IsRefused was.machine list.calls segment_is.Timestamps)) }
     ensures waiting { result ≡ WAITING
         → OnMachine (Some machine.old) (λ was. 0 < length was.waiting) }
+    ensures told { result ≡ TIMESTAMPS
+        → OnMachine (Some machine.old) (λ was. was.waiting ≡ []) }
     ensures unchanged { result ≢ DONE → result ≢ STOPPED → result ≢ KEPT
         → machine.new ≡ machine.old }
     ensures untouched { result ≢ DONE → result ≢ STOPPED → out.new ≡ out.old }
@@ -186,6 +158,8 @@ pub extern "C" fn bohm_run_calls<'a>(
         OnCalls calls.old.value (λ list. IsRefused was.machine list.calls segment_is.Timestamps)) }
     ensures waiting { result ≡ WAITING
         → OnMachine machine.old.value (λ was. 0 < length was.waiting) }
+    ensures told { result ≡ TIMESTAMPS
+        → OnMachine machine.old.value (λ was. was.waiting ≡ []) }
     ensures unchanged { result ≢ DONE → result ≢ STOPPED → result ≢ KEPT
         → machine.new.value ≡ machine.old.value }
     ensures untouched { result ≢ DONE → result ≢ STOPPED → out.new ≡ out.old }

@@ -7,11 +7,15 @@ ghost use Rattle.bohm_types.specs.Appending.{with_txn};
 ghost use Rattle.bohm_types.specs.Name.{key_of};
 ghost use Rattle.bohm_types.specs.Procedure.{instance};
 ghost use Rattle.bohm_log.specs.Handles.{keys_named};
-ghost use Rattle.bohm_procedures.specs.Accepting.{Takes};
+ghost use Rattle.bohm_procedures.specs.Accepting.{Takes, TakesCounts};
+ghost use Rattle.bohm_text.specs.Print.{print_doc};
 ghost use Rattle.bohm_c.specs.Calling.{IsPushed};
 ghost use Rattle.bohm_c.specs.Listed.{Knows, cleared, empty_list, named_by, with_name};
 ghost use Rattle.bohm_c.specs.declared.call_list.PushFault.TheVariants as push_is;
+ghost use Rattle.bohm_c.specs.declared.key_fault.KeyFault.TheVariants as key_is;
 
+use crate::handing::Text;
+use crate::key_fault::KeyFault;
 use crate::key_names::KeyNames;
 use bohm_log::{DrawnSeed, SharedNames};
 use bohm_machine::Machine;
@@ -59,76 +63,57 @@ impl Model for CallList {
 /// Why a call isn't added.
 #[derive(Clone, Copy, Debug, PartialEq, Eq)]
 pub enum PushFault {
-    /// An argument is no key.
-    NoKey,
-    /// The arguments, the edition or the number of the calls don't fit.
+    /// The numbers of the arguments, the edition or the number of the calls don't fit.
     Unfit,
-    /// An allocation failed, or 32 bits of a column are full.
-    NoMemory,
+    /// An argument isn't taken.
+    Key(KeyFault),
+}
+
+impl From<KeyFault> for PushFault {
+    ghost from_gives = { λ fault e. e ≡ push_is.Key fault };
+
+    fn from(fault: KeyFault) -> PushFault {
+        PushFault::Key(fault)
+    }
 }
 
 impl From<NoMemory> for PushFault {
-    ghost from_gives = { λ _ e. e ≡ push_is.NoMemory };
+    ghost from_gives = { λ _ e. e ≡ push_is.Key key_is.NoMemory };
 
     fn from(_e: NoMemory) -> PushFault {
-        PushFault::NoMemory
+        PushFault::Key(KeyFault::NoMemory)
     }
 }
 
 /// Fills a vector with handles of the keys with these names.
-fn fill_handles(
+pub fn fill_handles(
     handles: &mut Vec<KeyHandle>,
     calls: &Calls,
     names: &[&[u8]],
-) -> Result<(), PushFault>
+) -> Result<(), KeyFault>
     ensures ok { OnOk result (keys_named handles.new.items ≡ map (λ n. n.now) names.now) }
-    ensures no_key { result ≡ Err push_is.NoKey → Any (λ n. key_of n.now ≡ None) names.now }
-    ensures fits { result ≢ Err push_is.Unfit }
+    ensures no_key { result ≡ Err key_is.NoKey → Any (λ n. key_of n.now ≡ None) names.now }
 {
     handles.clear();
     for name in names {
         let Some(key) = Key::new(name) else {
-            return Err(PushFault::NoKey);
+            return Err(KeyFault::NoKey);
         };
         if handles.push(calls.noted_handle(&key)).is_err() {
-            return Err(PushFault::NoMemory);
+            return Err(KeyFault::NoMemory);
         }
     }
     Ok(())
 }
 
 /// Fills a vector with these numbers as values.
-fn fill_values(values: &mut Vec<Value>, numbers: &[i64]) -> Result<(), NoMemory>
+pub fn fill_values(values: &mut Vec<Value>, numbers: &[i64]) -> Result<(), NoMemory>
     ensures { OnOk result (values.new.items ≡ numbers.now) }
 {
     values.clear();
     for number in numbers {
         values.push(Value::from(*number))?;
     }
-    Ok(())
-}
-
-/// Adds a call with these arguments.
-#[inline(always)]
-fn add_call(
-    calls: &mut Calls,
-    procedure: &Procedure,
-    keys: &[KeyHandle],
-    values: &[Value],
-) -> Result<(), PushFault>
-    ensures takes { OnOk result
-        (Takes calls.old procedure.now (keys_named keys.now) values.now) }
-    ensures ok { OnOk result (calls.new ≡ with_txn calls.old
-        (instance procedure.now (keys_named keys.now) values.now)) }
-    ensures keys { result ≢ Err push_is.NoKey }
-    ensures unfit { result ≡ Err push_is.Unfit
-        → ¬ Takes calls.old procedure.now (keys_named keys.now) values.now }
-    ensures unchanged { OnErr result (calls.new ≡ calls.old) }
-{
-    if !calls.takes_named(procedure, keys, values) {
-        return Err(PushFault::Unfit);
-    }
-    calls.push_named(procedure, keys, values)?;
     Ok(())
 }
 
@@ -164,6 +149,21 @@ impl CallList {
         self.calls.clear();
     }
 
+    /// Whether a call with this many arguments of each kind can be added.
+    pub fn takes(&self, procedure: &Procedure, keys: usize, values: usize) -> bool
+        ensures { (result ≡ true) ↔ TakesCounts self.now.calls procedure.now keys values }
+    {
+        self.calls.takes_counts(procedure, keys, values)
+    }
+
+    /// Whether a call with these arguments can be added, if the names are keys'.
+    fn takes_names(&self, procedure: &Procedure, names: &[&[u8]], numbers: &[i64]) -> bool
+        ensures { (result ≡ true) ↔ Takes self.now.calls procedure.now (map (λ n. n.now) names.now)
+            numbers.now }
+    {
+        self.takes(procedure, names.len(), numbers.len())
+    }
+
     /// Adds a call with these arguments.
     pub fn push(
         &mut self,
@@ -173,14 +173,21 @@ impl CallList {
     ) -> Result<(), PushFault>
         ensures ok { OnOk result (IsPushed procedure.now (map (λ n. n.now) names.now) numbers.now
             self.old self.new) }
-        ensures no_key { result ≡ Err push_is.NoKey → Any (λ n. key_of n.now ≡ None) names.now }
+        ensures no_key { result ≡ Err (push_is.Key key_is.NoKey)
+            → Any (λ n. key_of n.now ≡ None) names.now }
+        ensures fits { result ≢ Err push_is.Unfit
+            → Takes self.old.calls procedure.now (map (λ n. n.now) names.now) numbers.now }
         ensures unfit { result ≡ Err push_is.Unfit
             → ¬ Takes self.old.calls procedure.now (map (λ n. n.now) names.now) numbers.now }
         ensures unchanged { OnErr result (self.new ≡ self.old) }
     {
+        if !self.takes_names(procedure, names, numbers) {
+            return Err(PushFault::Unfit);
+        }
         fill_handles(&mut self.named, &self.calls, names)?;
         fill_values(&mut self.values, numbers)?;
-        add_call(&mut self.calls, procedure, &self.named, &self.values)
+        self.calls.push_named(procedure, &self.named, &self.values)?;
+        Ok(())
     }
 
     /// A new handle of a key, valid until the list is dropped. `NoMemory` if an allocation fails,
@@ -215,14 +222,25 @@ impl CallList {
         requires known { Knows self.old handles.now }
         ensures ok { OnOk result (IsPushed procedure.now (named_by self.old handles.now)
             numbers.now self.old self.new) }
-        ensures keys { result ≢ Err push_is.NoKey }
+        ensures keys { result ≢ Err (push_is.Key key_is.NoKey) }
         ensures unfit { result ≡ Err push_is.Unfit → ¬ Takes self.old.calls procedure.now
             (named_by self.old handles.now) numbers.now }
         ensures unchanged { OnErr result (self.new ≡ self.old) }
     {
+        if !self.takes(procedure, handles.len(), numbers.len()) {
+            return Err(PushFault::Unfit);
+        }
         self.names.fill(&mut self.named, handles)?;
         fill_values(&mut self.values, numbers)?;
-        add_call(&mut self.calls, procedure, &self.named, &self.values)
+        self.calls.push_named(procedure, &self.named, &self.values)?;
+        Ok(())
+    }
+
+    /// The text of the log of the calls.
+    pub fn text(&self, alloc: Global) -> Result<Text, NoMemory>
+        ensures { IfOk result (λ text. text ≡ print_doc self.now.calls) }
+    {
+        Text::new(self.calls.print(alloc)?)
     }
 
     /// The log of the calls, which a machine can run.

@@ -1,6 +1,6 @@
 //! The functions that C calls.
 
-ghost use Rattle.std.specs.Prelude.{◌≡◌, ◌≢◌, ◌+◌, ◌<◌, ◌≤◌, ◌⊎◌, ◌↔◌, [], length, None};
+ghost use Rattle.std.specs.Prelude.{◌≡◌, ◌≢◌, ◌+◌, ◌<◌, ◌≤◌, ◌⊎◌, ◌↔◌, [], length, None, Some};
 ghost use Rattle.bohm_types.specs.Name.{key_of};
 ghost use Rattle.bohm_text.specs.Print.{print_numbered};
 ghost use Rattle.bohm_machine.specs.Digests.{IsDigest};
@@ -13,12 +13,12 @@ ghost use Rattle.bohm_c.specs.Keeping.{IsStopped, IsTrimmed, IsUntaken, told};
 ghost use Rattle.bohm_c.specs.Reading.{IsRefusal};
 
 use crate::answer::answer;
-use crate::handing::hand_over;
+use crate::counts::BohmCounts;
 use crate::handle::{BohmHandle, put_back, take_back};
 use crate::kept::Kept;
 use crate::reading::read;
 use crate::seeds::draw;
-use crate::session::{BohmCounts, open, refuse, refuse_opening};
+use crate::session::{open, refuse, refuse_opening};
 use crate::status::{
     DONE, FUTURE, HAS_LOG, HAS_STORE, KEPT, MISUSE, NO_KEY, NO_MEMORY, REFUSED, STOPPED,
     TIMESTAMPS, TRIMMED, WAITING,
@@ -46,7 +46,7 @@ pub extern "C" fn bohm_answer<'a>(
     };
     match answer(alloc, seed, &checked) {
         Ok(answer) => {
-            *out = hand_over(alloc, answer);
+            *out = answer.hand_over(alloc);
             DONE
         }
         Err(_) => NO_MEMORY,
@@ -116,6 +116,8 @@ pub extern "C" fn bohm_apply<'a>(
         (λ was. IsUntaken was.machine text.now segment_is.Timestamps) }
     ensures waiting { result ≡ WAITING
         → OnMachine machine.old.value (λ was. 0 < length was.waiting) }
+    ensures told { (result ≡ REFUSED) ⊎ (result ≡ HAS_STORE) ⊎ (result ≡ TIMESTAMPS)
+        → OnMachine machine.old.value (λ was. was.waiting ≡ []) }
     ensures unchanged { result ≢ DONE → result ≢ STOPPED → result ≢ KEPT
         → machine.new.value ≡ machine.old.value }
     ensures untouched { result ≢ DONE → result ≢ REFUSED → result ≢ STOPPED → out.new ≡ out.old }
@@ -141,7 +143,8 @@ pub extern "C" fn bohm_replies<'a>(
     ensures status { (result ≡ DONE) ⊎ (result ≡ NO_MEMORY) ⊎ (result ≡ MISUSE) }
     ensures misuse { (result ≡ MISUSE) ↔ ¬ IsMachine machine.old.value }
     ensures done { result ≡ DONE → OnMachine machine.old.value (λ was.
-        OnMachine machine.new.value (λ now. (now.machine ≡ was.machine) × (now.waiting ≡ []))) }
+        OnMachine machine.new.value (λ now. (now.machine ≡ was.machine) × (now.waiting ≡ [])
+        × (now.single ≡ was.single))) }
     ensures says { result ≡ DONE → OnMachine machine.old.value
         (λ was. out.new.now ≡ print_numbered (was.behind + 1) was.waiting) }
     ensures unchanged { 0 < result → machine.new.value ≡ machine.old.value }
@@ -179,6 +182,9 @@ pub extern "C" fn bohm_value_at(
         → OnMachine machine.old.value (λ k. ts < floor_of k.machine) }
     ensures future { result ≡ FUTURE → OnMachine machine.old.value (λ k. top_of k.machine < ts) }
     ensures no_key { result ≡ NO_KEY → key_of key.now ≡ None }
+    ensures key { (result ≡ TRIMMED) ⊎ (result ≡ FUTURE) → key_of key.now ≡ Some key.now }
+    ensures untouched { 0 < result → present.new ≡ present.old }
+    ensures same_value { 0 < result → value.new ≡ value.old }
 {
     let Some(kept) = take_back(alloc, machine) else {
         return MISUSE;

@@ -62,6 +62,7 @@ impl Session {
         ensures timestamps { result ≡ TIMESTAMPS
             → IsUntaken self.old.machine text.now segment_is.Timestamps }
         ensures waiting { result ≡ WAITING → 0 < length self.old.waiting }
+        ensures told { result ≢ WAITING → self.old.waiting ≡ [] }
         ensures unchanged { 0 < result → result < STOPPED → self.new ≡ self.old }
         ensures untouched { result ≢ REFUSED → out.new ≡ out.old }
     {
@@ -86,6 +87,7 @@ impl Session {
         ensures timestamps { result ≡ TIMESTAMPS
             → IsUntakenBy self.old.machine calls.now.calls segment_is.Timestamps }
         ensures waiting { result ≡ WAITING → 0 < length self.old.waiting }
+        ensures told { result ≢ WAITING → self.old.waiting ≡ [] }
         ensures unchanged { 0 < result → result < STOPPED → self.new ≡ self.old }
     {
         if self.waiting.is_empty() {
@@ -104,6 +106,7 @@ impl Session {
     ) -> u32
         ensures status { (result ≡ DONE) ⊎ (result ≡ NO_MEMORY) }
         ensures machine { self.new.machine ≡ self.old.machine }
+        ensures names { self.new.single ≡ self.old.single }
         ensures replies { result ≡ DONE → replies.new.now ≡ rows_from 0 self.old.waiting }
         ensures values { result ≡ DONE → values.new.now ≡ flat_map shows_of self.old.waiting }
         ensures handed { result ≡ DONE → self.new.waiting ≡ [] }

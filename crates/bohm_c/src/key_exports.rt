@@ -10,6 +10,7 @@ ghost use Rattle.bohm_c.specs.Listed.{Knows, named_by, with_name};
 use crate::call_list::PushFault;
 use crate::handle::{BohmHandle, put_back, take_back};
 use crate::kept::Kept;
+use crate::key_fault::KeyFault;
 use crate::status::{DONE, MISUSE, NO_KEY, NO_MEMORY, UNFIT};
 use bohm_types::{Key, NoMemory};
 use std::alloc::Global;
@@ -99,8 +100,9 @@ fn push_named_on(calls: &mut Kept, procedure: &Kept, handles: &[u32], values: &[
     }
     match list.push_named(procedure, handles, values) {
         Ok(()) => DONE,
-        Err(PushFault::NoMemory) => NO_MEMORY,
-        Err(PushFault::NoKey | PushFault::Unfit) => UNFIT,
+        Err(PushFault::Unfit) => UNFIT,
+        Err(PushFault::Key(KeyFault::NoMemory)) => NO_MEMORY,
+        Err(PushFault::Key(KeyFault::NoKey)) => unreachable!(),
     }
 }
 

@@ -95,6 +95,17 @@ fn push_key(
     Ok(())
 }
 
+/// The key with a number.
+fn key_at(shared: &SharedNames<HashSeed>, own: &[KeyHandle], number: u32) -> Key
+    requires { number < length (shared.now ++ keys_named own.now) }
+    ensures { result ≡ name_at (shared.now ++ keys_named own.now) number }
+{
+    match shared.handle(number) {
+        Some(key) => key.key(),
+        None => own[number as usize - shared.len()].key(),
+    }
+}
+
 impl KeyNames {
     /// No handles, in a list that shares these names. It allocates nothing.
     pub fn sharing(alloc: Global, shared: SharedNames<HashSeed>) -> KeyNames
@@ -134,6 +145,26 @@ impl KeyNames {
     {
         let number = self.numbers[handle as usize];
         push_key(keys, &self.shared, self.own.as_slice(), number)
+    }
+
+    /// The key of a handle.
+    fn key(&self, handle: usize) -> Key
+        requires { handle < length self.now }
+        ensures { result ≡ name_at self.now handle }
+    {
+        let number = self.numbers[handle];
+        key_at(&self.shared, self.own.as_slice(), number)
+    }
+
+    /// Adds a handle of each key that has one in another list, in the same order.
+    pub fn push_all(&mut self, calls: &mut Calls, other: &KeyNames) -> Result<(), NoMemory>
+        ensures calls { calls.new ≡ calls.old }
+        ensures ok { OnOk result (self.new ≡ self.old ++ other.now) }
+    {
+        for handle in 0..other.len() {
+            self.push(calls, &other.key(handle))?;
+        }
+        Ok(())
     }
 
     /// Fills a vector with the keys of these handles.

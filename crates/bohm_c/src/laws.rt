@@ -1,16 +1,14 @@
 //! Laws over the definitions alone. No call uses them.
 
 ghost use Rattle.std.specs.Prelude.{◌≡◌, ℕ, List};
-ghost use Rattle.bohm_types.specs.Sound.{IsDocument};
 ghost use Rattle.bohm_store.specs.Versions.{Timeline};
 ghost use Rattle.bohm_machine.specs.Machines.{now_of, top_of};
 ghost use Rattle.bohm_c.specs.Keeping.{IsOpening, IsSnapshot};
-ghost use Rattle.bohm_c.specs.Reading.{snapshot_of};
 ghost use Rattle.bohm_c.specs.declared.session.Session.{Session};
 
 use crate::status::{
     DONE, FUTURE, HAS_LOG, HAS_STORE, KEPT, MISUSE, NO_KEY, NO_MEMORY, REFUSED, STOPPED,
-    TIMESTAMPS, TRIMMED, UNFIT, WAITING,
+    TIMESTAMPS, TRIMMED, UNFIT, UNSORTED, WAITING,
 };
 use bohm_text::laws::one_text;
 
@@ -31,15 +29,15 @@ pub fn status_numbers()
     ensures kept { KEPT ≡ 11 }
     ensures unfit { UNFIT ≡ 12 }
     ensures misuse { MISUSE ≡ 13 }
+    ensures unsorted { UNSORTED ≡ 14 }
 {}
 
 /// A machine opened at another machine's top, on a snapshot of that top, holds what the other holds
-/// there: so both continue alike. The names of the snapshot's keys are valid names, as those of
-/// every `Key` are.
+/// there: so both continue alike.
 pub fn snapshot_goes_on()
     ensures { (m : Timeline) (text : List ℕ) (session : Session)
-        → (snapshot : IsSnapshot m (top_of m) text) → IsDocument (snapshot_of snapshot.store)
-        → IsOpening text (top_of m) session → now_of session.machine ≡ now_of m }
+        → IsSnapshot m (top_of m) text → IsOpening text (top_of m) session
+        → now_of session.machine ≡ now_of m }
 {
     one_text();
 }

@@ -1,7 +1,9 @@
-//! The C functions that open and clear lists of calls.
+//! The C functions that open, print and clear lists of calls.
 
 ghost use Rattle.std.specs.Prelude.{◌≡◌, ◌≢◌, ◌<◌, ◌⊎◌, ◌↔◌, IfSome, IfNone, None, Some};
-ghost use Rattle.bohm_c.specs.Handles.{IsCallList, IsMachine, OnCalls};
+ghost use Rattle.bohm_text.specs.Print.{print_doc};
+ghost use Rattle.bohm_procedures.specs.Accepting.{TakesCounts};
+ghost use Rattle.bohm_c.specs.Handles.{IsCallList, IsMachine, IsProcedure, OnCalls, OnProcedure};
 ghost use Rattle.bohm_c.specs.Listed.{IsNew, cleared, edition_number};
 
 use crate::call_list::CallList;
@@ -114,6 +116,95 @@ pub extern "C" fn bohm_open_calls_for(
         Kept::Prepared(_) | Kept::Calls(_) => MISUSE,
     };
     put_back(machine, kept);
+    status
+}
+
+/// Returns the text of the log of an open list's calls.
+#[unsafe(no_mangle)]
+pub extern "C" fn bohm_calls_text<'a>(
+    alloc: Global,
+    calls: &mut BohmHandle,
+    out: &mut &'a mut [u8],
+) -> u32
+    ensures same { calls.new.value ≡ calls.old.value }
+    ensures status { (result ≡ DONE) ⊎ (result ≡ NO_MEMORY) ⊎ (result ≡ MISUSE) }
+    ensures misuse { (result ≡ MISUSE) ↔ ¬ IsCallList calls.old.value }
+    ensures done { result ≡ DONE
+        → OnCalls calls.old.value (λ list. out.new.now ≡ print_doc list.calls) }
+    ensures untouched { 0 < result → out.new ≡ out.old }
+{
+    let Some(kept) = take_back(alloc, calls) else {
+        return MISUSE;
+    };
+    let status = match &*kept {
+        Kept::Calls(list) => match list.text(alloc) {
+            Ok(text) => {
+                *out = text.hand_over(alloc);
+                DONE
+            }
+            Err(_) => NO_MEMORY,
+        },
+        Kept::Machine(_) | Kept::Prepared(_) => MISUSE,
+    };
+    put_back(calls, kept);
+    status
+}
+
+/// Whether a list takes a call with this many arguments of each kind: `DONE`, or the status that
+/// tells why not.
+fn takes_on(calls: &Kept, procedure: &Kept, keys: usize, values: usize) -> u32
+    ensures status { (result ≡ DONE) ⊎ (result ≡ UNFIT) ⊎ (result ≡ MISUSE) }
+    ensures misuse { (result ≡ MISUSE)
+        ↔ ¬ (IsCallList (Some calls.now) × IsProcedure (Some procedure.now)) }
+    ensures unfit { result ≡ UNFIT → OnProcedure (Some procedure.now) (λ p.
+        OnCalls (Some calls.now) (λ was. ¬ TakesCounts was.calls p keys values)) }
+    ensures done { result ≡ DONE → OnProcedure (Some procedure.now) (λ p.
+        OnCalls (Some calls.now) (λ was. TakesCounts was.calls p keys values)) }
+{
+    let Kept::Prepared(procedure) = procedure else {
+        return MISUSE;
+    };
+    let Kept::Calls(list) = calls else {
+        return MISUSE;
+    };
+    if list.takes(procedure, keys, values) {
+        DONE
+    } else {
+        UNFIT
+    }
+}
+
+/// Whether a list takes a call with this many arguments of each kind, before its keys are read.
+#[unsafe(no_mangle)]
+pub extern "C" fn bohm_takes(
+    alloc: Global,
+    calls: &mut BohmHandle,
+    procedure: &mut BohmHandle,
+    keys: usize,
+    values: usize,
+) -> u32
+    ensures same { calls.new.value ≡ calls.old.value }
+    ensures same_procedure { procedure.new.value ≡ procedure.old.value }
+    ensures status { (result ≡ DONE) ⊎ (result ≡ UNFIT) ⊎ (result ≡ MISUSE) }
+    ensures misuse { (result ≡ MISUSE)
+        ↔ ¬ (IsCallList calls.old.value × IsProcedure procedure.old.value) }
+    ensures unfit { result ≡ UNFIT → OnProcedure procedure.old.value (λ p.
+        OnCalls calls.old.value (λ was. ¬ TakesCounts was.calls p keys values)) }
+    ensures done { result ≡ DONE → OnProcedure procedure.old.value (λ p.
+        OnCalls calls.old.value (λ was. TakesCounts was.calls p keys values)) }
+{
+    let Some(list) = take_back(alloc, calls) else {
+        return MISUSE;
+    };
+    let status = match take_back(alloc, procedure) {
+        Some(prepared) => {
+            let status = takes_on(&*list, &*prepared, keys, values);
+            put_back(procedure, prepared);
+            status
+        }
+        None => MISUSE,
+    };
+    put_back(calls, list);
     status
 }
 

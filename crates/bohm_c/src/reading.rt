@@ -2,11 +2,13 @@
 
 ghost use Rattle.std.specs.Prelude.{◌≡◌, IfOk, IfErr};
 ghost use Rattle.std.specs.FinMap.{entries};
+ghost use Rattle.bohm_types.specs.Sound.{IsDocument};
 ghost use Rattle.bohm_txn.specs.Faulty.{WellFormed};
 ghost use Rattle.bohm_txn.specs.Stores.{store_of};
 ghost use Rattle.bohm_text.specs.Print.{print_doc};
 ghost use Rattle.bohm_c.specs.Reading.{IsRead, IsRefused, snapshot_of};
 
+use crate::handing::Text;
 use bohm_answer::{LONGEST_TEXT, RunFault};
 use bohm_log::{Doc, DrawnSeed, FixedSeed, HashSeed, Log};
 use bohm_text::{parse_with_seed, print_doc};
@@ -27,10 +29,11 @@ pub fn read(alloc: Global, seed: DrawnSeed, text: &[u8]) -> Result<Checked, RunF
 }
 
 /// The text of the document with this store, whose keys ascend, and no transactions.
-pub fn print_snapshot(alloc: Global, store: Vec<(Key, Value)>) -> Result<Vec<u8>, NoMemory>
+pub fn print_snapshot(alloc: Global, store: Vec<(Key, Value)>) -> Result<Text, NoMemory>
     requires { store.items ≡ entries (store_of store.items) }
+    ensures sound { IsDocument (snapshot_of store.items) }
     ensures formed { WellFormed (snapshot_of store.items) }
-    ensures printed { IfOk result (λ text. text.items ≡ print_doc (snapshot_of store.items)) }
+    ensures printed { IfOk result (λ text. text ≡ print_doc (snapshot_of store.items)) }
 {
     let Some(doc) = Doc::new(
         Edition::One,
@@ -39,5 +42,6 @@ pub fn print_snapshot(alloc: Global, store: Vec<(Key, Value)>) -> Result<Vec<u8>
     ) else {
         unreachable!()
     };
-    print_doc(alloc, &doc)
+    doc.has_text();
+    Text::new(print_doc(alloc, &doc)?)
 }

@@ -39,6 +39,8 @@ pub extern "C" fn bohm_apply_held<'a>(
         (λ was. IsUntaken was.machine text.now segment_is.Timestamps) }
     ensures waiting { result ≡ WAITING
         → OnMachine machine.old.value (λ was. 0 < length was.waiting) }
+    ensures told { (result ≡ REFUSED) ⊎ (result ≡ HAS_STORE) ⊎ (result ≡ TIMESTAMPS)
+        → OnMachine machine.old.value (λ was. was.waiting ≡ []) }
     ensures unchanged { result ≢ DONE → result ≢ STOPPED
         → machine.new.value ≡ machine.old.value }
     ensures untouched { result ≢ REFUSED → out.new ≡ out.old }
@@ -72,6 +74,8 @@ fn hold_on(machine: &mut Kept, alloc: Global, calls: &Kept) -> u32
         OnCalls (Some calls.now) (λ list. IsRefused was.machine list.calls segment_is.Timestamps)) }
     ensures waiting { result ≡ WAITING
         → OnMachine (Some machine.old) (λ was. 0 < length was.waiting) }
+    ensures told { result ≡ TIMESTAMPS
+        → OnMachine (Some machine.old) (λ was. was.waiting ≡ []) }
     ensures unchanged { result ≢ DONE → result ≢ STOPPED → machine.new ≡ machine.old }
 {
     let Kept::Calls(list) = calls else {
@@ -107,6 +111,8 @@ pub extern "C" fn bohm_run_calls_held(
         OnCalls calls.old.value (λ list. IsRefused was.machine list.calls segment_is.Timestamps)) }
     ensures waiting { result ≡ WAITING
         → OnMachine machine.old.value (λ was. 0 < length was.waiting) }
+    ensures told { result ≡ TIMESTAMPS
+        → OnMachine machine.old.value (λ was. was.waiting ≡ []) }
     ensures unchanged { result ≢ DONE → result ≢ STOPPED
         → machine.new.value ≡ machine.old.value }
 {
@@ -136,7 +142,8 @@ pub extern "C" fn bohm_rows<'a>(
     ensures status { (result ≡ DONE) ⊎ (result ≡ NO_MEMORY) ⊎ (result ≡ MISUSE) }
     ensures misuse { (result ≡ MISUSE) ↔ ¬ IsMachine machine.old.value }
     ensures done { result ≡ DONE → OnMachine machine.old.value (λ was.
-        OnMachine machine.new.value (λ now. (now.machine ≡ was.machine) × (now.waiting ≡ []))) }
+        OnMachine machine.new.value (λ now. (now.machine ≡ was.machine) × (now.waiting ≡ [])
+        × (now.single ≡ was.single))) }
     ensures replies { result ≡ DONE → OnMachine machine.old.value
         (λ was. replies.new.now ≡ rows_from 0 was.waiting) }
     ensures values { result ≡ DONE → OnMachine machine.old.value

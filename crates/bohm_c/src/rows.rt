@@ -49,6 +49,36 @@ fn put_shows(values: &mut Vec<i64>, shows: &[Value]) -> Result<(), NoMemory>
     Ok(())
 }
 
+/// The values that a reply shows.
+pub fn shown_by<'a>(reply: ReplyView<'a>) -> &'a [Value]
+    ensures { result.now ≡ shows_of (reply_shown reply.entry) }
+{
+    match reply {
+        ReplyView::Commit { shows } => shows,
+        ReplyView::Abort { .. } => &[],
+    }
+}
+
+/// The row of a reply, where this many values were shown before it.
+pub fn row_of(first: u64, reply: ReplyView<'_>) -> BohmReply
+    ensures { result ≡ row_of first (reply_shown reply.entry) }
+{
+    match reply {
+        ReplyView::Commit { shows } => BohmReply {
+            outcome: 0,
+            statement: 0,
+            first,
+            shown: shows.len() as u64,
+        },
+        ReplyView::Abort { reason, stmt } => BohmReply {
+            outcome: outcome_of(reason),
+            statement: stmt,
+            first,
+            shown: 0,
+        },
+    }
+}
+
 /// Appends the row of a reply, and the values that it shows.
 fn put_reply(rows: &mut Rows, reply: ReplyView<'_>) -> Result<(), NoMemory>
     ensures replies { OnOk result (rows.new.replies.items ≡ rows.old.replies.items
@@ -56,24 +86,8 @@ fn put_reply(rows: &mut Rows, reply: ReplyView<'_>) -> Result<(), NoMemory>
     ensures values { OnOk result
         (rows.new.values.items ≡ rows.old.values.items ++ shows_of (reply_shown reply.entry)) }
 {
-    let first = rows.values.len() as u64;
-    let row = match reply {
-        ReplyView::Commit { shows } => {
-            put_shows(&mut rows.values, shows)?;
-            BohmReply {
-                outcome: 0,
-                statement: 0,
-                first,
-                shown: shows.len() as u64,
-            }
-        }
-        ReplyView::Abort { reason, stmt } => BohmReply {
-            outcome: outcome_of(reason),
-            statement: stmt,
-            first,
-            shown: 0,
-        },
-    };
+    let row = row_of(rows.values.len() as u64, reply);
+    put_shows(&mut rows.values, shown_by(reply))?;
     rows.replies.push(row)?;
     Ok(())
 }

@@ -3,6 +3,7 @@
 ghost use Rattle.std.specs.Prelude.{◌≡◌, ◌≢◌, ◌+◌, ◌<◌, ◌≤◌, ◌^◌, ◌⊎◌, ◌↔◌, ℕ, List, []};
 ghost use Rattle.std.specs.Prelude.{length, true, false, is_ok, None, IfSome, IfOk, IfErr};
 ghost use Rattle.bohm_types.specs.declared.cell.Cell.TheVariants as cell_is;
+ghost use Rattle.bohm_types.specs.Keys.{names_of, rising};
 ghost use Rattle.bohm_text.specs.Print.{print_numbered};
 ghost use Rattle.bohm_machine.specs.Digests.{IsDigest};
 ghost use Rattle.bohm_machine.specs.Machines.{floor_of, past_of, top_of};
@@ -10,16 +11,17 @@ ghost use Rattle.bohm_machine.specs.Segments.{IsRefused as IsUntakenBy};
 ghost use Rattle.bohm_answer.specs.FaultLine.{fault_line};
 ghost use Rattle.bohm_answer.specs.declared.fault.RunFault.TheVariants as run_is;
 ghost use Rattle.bohm_machine.specs.declared.fault.SegmentFault.TheVariants as segment_is;
-ghost use Rattle.bohm_c.specs.Keeping.{HasCounts, HasTransactions, IsDone, IsKept};
+ghost use Rattle.bohm_c.specs.Keeping.{HasTransactions, IsDone, IsKept};
 ghost use Rattle.bohm_c.specs.Keeping.{IsOpened, IsOpening, IsReadable, IsRefusedOpening};
 ghost use Rattle.bohm_c.specs.Keeping.{IsRunKept, IsRunPartly, IsRunWhole, IsSnapshot};
 ghost use Rattle.bohm_c.specs.Keeping.{IsStopped, IsTrimmed, IsUnopened, IsUntaken, told};
-ghost use Rattle.bohm_c.specs.Reading.{IsRefusal, IsRefused};
+ghost use Rattle.bohm_c.specs.Reading.{IsRefusal, IsRefused, snapshot_of};
 ghost use Rattle.bohm_c.specs.declared.session.OpenFault.TheVariants as open_is;
 
 use crate::call_list::CallList;
-use crate::handing::hand_over;
+use crate::handing::Text;
 use crate::reading::{print_snapshot, read};
+use crate::single_calls::SingleCalls;
 use crate::status::{
     DONE, FUTURE, HAS_LOG, HAS_STORE, KEPT, NO_MEMORY, REFUSED, STOPPED, TIMESTAMPS, TRIMMED,
     WAITING,
@@ -31,16 +33,17 @@ use bohm_machine::{Machine, SegmentFault};
 use bohm_store::{PastFault, StoreFault};
 use bohm_text::print_numbered;
 use bohm_txn::{Checked, Replies};
-use bohm_types::{Cell, Key, NoMemory};
+use bohm_types::{Cell, Key, NoMemory, Value};
 use std::alloc::Global;
 use std::mem;
 
-/// A machine, and the waiting replies of its last segment.
+/// A machine, the waiting replies of its last segment, and what single calls on it use.
 pub struct Session {
     pub machine: Machine,
     pub waiting: Replies,
     /// The timestamp before the first waiting reply.
     pub behind: u32,
+    pub single: SingleCalls,
 }
 
 // Written out: a derived drop is proved anew in each function that drops such a value.
@@ -50,21 +53,12 @@ impl Drop for Session {
             machine,
             waiting,
             behind: _,
+            single,
         } = self;
         drop(machine);
         drop(waiting);
+        drop(single);
     }
-}
-
-/// The least and the greatest timestamp that can be read, how many versions are kept, and how many
-/// replies are waiting.
-#[repr(C)]
-#[derive(Clone, Copy, Debug)]
-pub struct BohmCounts {
-    pub floor: u32,
-    pub top: u32,
-    pub versions: u64,
-    pub waiting: u64,
 }
 
 /// Why a snapshot isn't opened.
@@ -86,6 +80,13 @@ fn number_in(cell: Cell) -> Option<i64>
     }
 }
 
+/// The line that reports a fault.
+fn line_of(alloc: Global, fault: &RunFault) -> Result<Text, NoMemory>
+    ensures { IfOk result (λ line. line ≡ fault_line fault.now) }
+{
+    Text::new(print_fault(alloc, fault)?)
+}
+
 /// Returns the line that reports a fault of a text.
 pub fn refuse<'a>(alloc: Global, fault: RunFault, out: &mut &'a mut [u8]) -> u32
     ensures status { (result ≡ REFUSED) ⊎ (result ≡ NO_MEMORY) }
@@ -100,9 +101,9 @@ pub fn refuse<'a>(alloc: Global, fault: RunFault, out: &mut &'a mut [u8]) -> u32
     if let RunFault::NoMemory = fault {
         return NO_MEMORY;
     }
-    match print_fault(alloc, &fault) {
+    match line_of(alloc, &fault) {
         Ok(line) => {
-            *out = hand_over(alloc, line);
+            *out = line.hand_over(alloc);
             REFUSED
         }
         Err(_) => NO_MEMORY,
@@ -126,16 +127,24 @@ pub fn refuse_opening<'a>(alloc: Global, fault: OpenFault, out: &mut &'a mut [u8
     }
 }
 
+/// The text of replies after a timestamp.
+fn numbered(alloc: Global, behind: u32, replies: &Replies) -> Result<Text, NoMemory>
+    requires { behind + 1 + length replies.now ≤ 2 ^ 64 }
+    ensures { IfOk result (λ text. text ≡ print_numbered (behind + 1) replies.now) }
+{
+    Text::new(print_numbered(alloc, u64::from(behind) + 1, replies)?)
+}
+
 /// The text of the replies of a segment after a timestamp. It allocates nothing for no replies.
-fn text_of(alloc: Global, behind: u32, replies: &Replies) -> Result<Vec<u8>, NoMemory>
+fn text_of(alloc: Global, behind: u32, replies: &Replies) -> Result<Text, NoMemory>
     requires { behind + length replies.now < 2 ^ 32 }
-    ensures ok { IfOk result (λ t. t.items ≡ print_numbered (behind + 1) replies.now) }
+    ensures ok { IfOk result (λ text. text ≡ print_numbered (behind + 1) replies.now) }
     ensures err { IfErr result (λ _. 0 < length replies.now) }
 {
     if replies.is_empty() {
-        return Ok(Vec::new(alloc));
+        return Ok(Text::empty(alloc));
     }
-    print_numbered(alloc, u64::from(behind) + 1, replies)
+    numbered(alloc, behind, replies)
 }
 
 impl Session {
@@ -147,14 +156,15 @@ impl Session {
         applied: Applied,
         count: usize,
         behind: u32,
-        text: Result<Vec<u8>, NoMemory>,
+        text: Result<Text, NoMemory>,
         out: &mut &'a mut [u8],
     ) -> u32
         requires handed { self.old.waiting ≡ [] }
         requires few { length applied.replies ≤ count }
-        requires text { IfOk text (λ t. t.items ≡ print_numbered (behind + 1) applied.replies) }
+        requires text { IfOk text (λ t. t ≡ print_numbered (behind + 1) applied.replies) }
         requires untold { IfErr text (λ _. 0 < length applied.replies) }
         ensures machine { self.new.machine ≡ self.old.machine }
+        ensures names { self.new.single ≡ self.old.single }
         ensures status { (result ≡ DONE) ⊎ (result ≡ STOPPED) ⊎ (result ≡ KEPT) }
         ensures done { result ≡ DONE → length applied.replies ≡ count }
         ensures stopped { result ≡ STOPPED → length applied.replies < count }
@@ -170,7 +180,7 @@ impl Session {
         let Applied { replies, .. } = applied;
         match text {
             Ok(text) => {
-                *out = hand_over(alloc, text);
+                *out = text.hand_over(alloc);
                 if replies.len() < count { STOPPED } else { DONE }
             }
             Err(_) => {
@@ -222,6 +232,7 @@ impl Session {
         ensures timestamps { result ≡ TIMESTAMPS
             → IsUntaken self.old.machine text.now segment_is.Timestamps }
         ensures waiting { result ≡ WAITING → 0 < length self.old.waiting }
+        ensures told { result ≢ WAITING → self.old.waiting ≡ [] }
         ensures unchanged { 0 < result → result < STOPPED → self.new ≡ self.old }
         ensures untouched { result ≢ DONE → result ≢ REFUSED → result ≢ STOPPED
             → out.new ≡ out.old }
@@ -246,6 +257,7 @@ impl Session {
         ensures timestamps { result ≡ TIMESTAMPS
             → IsUntakenBy self.old.machine calls.now.calls segment_is.Timestamps }
         ensures waiting { result ≡ WAITING → 0 < length self.old.waiting }
+        ensures told { result ≢ WAITING → self.old.waiting ≡ [] }
         ensures unchanged { 0 < result → result < STOPPED → self.new ≡ self.old }
         ensures untouched { result ≢ DONE → result ≢ STOPPED → out.new ≡ out.old }
     {
@@ -260,6 +272,7 @@ impl Session {
     pub fn replies<'a>(&mut self, alloc: Global, out: &mut &'a mut [u8]) -> u32
         ensures status { (result ≡ DONE) ⊎ (result ≡ NO_MEMORY) }
         ensures machine { self.new.machine ≡ self.old.machine }
+        ensures names { self.new.single ≡ self.old.single }
         ensures says { result ≡ DONE
             → out.new.now ≡ print_numbered (self.old.behind + 1) self.old.waiting }
         ensures handed { result ≡ DONE → self.new.waiting ≡ [] }
@@ -267,9 +280,9 @@ impl Session {
         ensures untouched { result ≡ NO_MEMORY → out.new ≡ out.old }
     {
         let replies = mem::replace(&mut self.waiting, Replies::new(alloc));
-        match print_numbered(alloc, u64::from(self.behind) + 1, &replies) {
+        match numbered(alloc, self.behind, &replies) {
             Ok(text) => {
-                *out = hand_over(alloc, text);
+                *out = text.hand_over(alloc);
                 DONE
             }
             Err(_) => {
@@ -281,18 +294,6 @@ impl Session {
 }
 
 impl Session {
-    /// The machine's counts.
-    pub fn counts(&self) -> BohmCounts
-        ensures { HasCounts self.now result }
-    {
-        BohmCounts {
-            floor: self.machine.floor(),
-            top: self.machine.top(),
-            versions: self.machine.version_count(),
-            waiting: self.waiting.len() as u64,
-        }
-    }
-
     /// Writes the cell of a key after the transaction with a timestamp.
     pub fn value_at(&self, key: &Key, ts: u32, present: &mut bool, value: &mut i64) -> u32
         ensures status { (result ≡ DONE) ⊎ (result ≡ TRIMMED) ⊎ (result ≡ FUTURE) }
@@ -301,6 +302,8 @@ impl Session {
         ensures within { result ≡ DONE → IsReadable self.now.machine ts }
         ensures trimmed { result ≡ TRIMMED → ts < floor_of self.now.machine }
         ensures future { result ≡ FUTURE → top_of self.now.machine < ts }
+        ensures untouched { 0 < result → present.new ≡ present.old }
+        ensures same_value { 0 < result → value.new ≡ value.old }
     {
         let cell = match self.machine.value_at(key, ts) {
             Ok(cell) => cell,
@@ -335,7 +338,7 @@ impl Session {
         };
         match print_snapshot(alloc, store) {
             Ok(text) => {
-                *out = hand_over(alloc, text);
+                *out = text.hand_over(alloc);
                 DONE
             }
             Err(_) => NO_MEMORY,
@@ -379,6 +382,28 @@ impl Session {
     }
 }
 
+impl Session {
+    /// A machine on a store, as it was after the transaction with a timestamp.
+    pub fn on_store(
+        alloc: Global,
+        seed: DrawnSeed,
+        store: &[(Key, Value)],
+        top: u32,
+    ) -> Result<Session, NoMemory>
+        requires { rising (names_of store.now) ≡ true }
+        ensures { IfOk result (IsOpened (snapshot_of store.now) top) }
+    {
+        let machine = Machine::restore(alloc, seed, store, top)?;
+        let single = SingleCalls::of(alloc, &machine)?;
+        Ok(Session {
+            machine,
+            waiting: Replies::new(alloc),
+            behind: top,
+            single,
+        })
+    }
+}
+
 /// A machine on a snapshot's store, as it was after the transaction with a timestamp.
 fn restore(
     alloc: Global,
@@ -392,12 +417,8 @@ fn restore(
     if snapshot.log().len() > 0 {
         return Err(OpenFault::HasLog);
     }
-    match Machine::restore(alloc, seed, snapshot.store(), top) {
-        Ok(machine) => Ok(Session {
-            machine,
-            waiting: Replies::new(alloc),
-            behind: top,
-        }),
+    match Session::on_store(alloc, seed, snapshot.store(), top) {
+        Ok(session) => Ok(session),
         Err(_) => Err(OpenFault::Text(RunFault::NoMemory)),
     }
 }

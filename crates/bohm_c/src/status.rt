@@ -33,12 +33,17 @@ pub const WAITING: u32 = 9;
 /// The segment ran up to a failed allocation, and the replies up to there are returned.
 pub const STOPPED: u32 = 10;
 
-/// The segment ran, whole or up to a failed allocation, and its replies are kept waiting.
+/// The segment ran, whole or up to a failed allocation, and its replies, for which there was no
+/// room, are kept waiting.
 pub const KEPT: u32 = 11;
 
-/// The edition, the argument counts or the number of calls don't fit, and nothing has changed.
+/// The edition, the argument counts, the number of calls or a statement's number don't fit, and
+/// nothing has changed.
 pub const UNFIT: u32 = 12;
 
 /// A handle isn't open or closed as the call requires, and nothing has changed. C's callers get it
 /// for a null pointer too.
 pub const MISUSE: u32 = 13;
+
+/// The keys of a store's rows don't rise, each above the one before it, and nothing has changed.
+pub const UNSORTED: u32 = 14;

@@ -22,6 +22,7 @@ returns-in-Ok-clause-done c = λ e.
         goes_on = rw c.hand_out.ensures.machine ran.goes_on;
         runs_on = rw c.hand_out.ensures.machine ran.runs_on;
         batches = ran.batches;
+        names = c.hand_out.ensures.names;
       };
       whole = omega (arith, c.hand_out.ensures.done e, c.len.ensures, ap length c.log.ensures.same);
       says = c.hand_out.ensures.says few ∙ ap (λ n. print_numbered (n + 1) applied.replies) c.top-behind.ensures.top;
