@@ -33,8 +33,7 @@ pub use finding::faults;
 pub use loose_faults::{LooseText, put_double, put_loose_faults};
 pub use page::Page;
 pub use procedure_report::{
-    ProcedureSummary, StatementLine, check_loose_procedure, check_procedure, is_procedure,
-    put_notes, statement_at,
+    ProcedureSummary, check_loose_procedure, check_procedure, is_procedure, put_notes,
 };
 pub use report::put_faults;
 pub use summary::Summary;

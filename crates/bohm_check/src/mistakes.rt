@@ -161,7 +161,7 @@ impl Mistake {
         match self {
             Mistake::ByteOrderMark => "a byte order mark precedes the text: remove it",
             Mistake::EmptyLine => "the line is empty",
-            Mistake::Comment => "a comment begins here; `tidy` takes comments out",
+            Mistake::Comment => "a comment begins here; `bohm-tidy` takes comments out",
             Mistake::Tab => "tab: separate words by one space",
             Mistake::CarriageReturn => "carriage return: a line ends with a newline alone",
             Mistake::BlankAtBegin => "the line begins with a space",

@@ -1,4 +1,4 @@
-//! Procedures for people: why one is refused, what it has in numbers, and its statements by number.
+//! Procedures for people: why one is refused, and what it has in numbers.
 
 ghost use Rattle.std.specs.Prelude.{◌≡◌, ◌++◌, ℕ, length, Err, IfOk, OnOk};
 ghost use Rattle.bohm_text.specs.Cut.{whole_lines};
@@ -11,7 +11,7 @@ ghost use Rattle.bohm_check.specs.SummaryLine.{head_words, procedure_line, thing
 
 use crate::finding::faults;
 use crate::grammar::Kind;
-use crate::lines::{behind_lines, first_line};
+use crate::lines::first_line;
 use crate::loose_faults::{LooseText, put_loose_faults};
 use crate::page::{Counts, Page};
 use crate::report::put_faults;
@@ -264,50 +264,6 @@ pub fn check_loose_procedure(
             Err(fault)
         }
     }
-}
-
-/// A statement of a procedure, as its text has it.
-#[derive(Clone, Copy, Debug, PartialEq, Eq)]
-pub struct StatementLine<'a> {
-    /// Its line, counted from 1.
-    pub line: u64,
-    /// That line, without its newline.
-    pub text: &'a [u8],
-}
-
-/// The number of lines from a text's first one on that begin with a word.
-fn lines_with(text: &[u8], word: &[u8]) -> u64 {
-    let mut count: u64 = 0;
-    for line in text.split(|byte| *byte == b'\n') {
-        if !line.starts_with(word) {
-            return count;
-        }
-        count = count.saturating_add(1);
-    }
-    count
-}
-
-/// The statement with a number of the text of a procedure, as replies count them: from 1, the
-/// bindings of the values first, for which the line of the value is returned. Nothing if there are
-/// fewer statements. The time grows with the text before it.
-pub fn statement_at(text: &[u8], number: u32) -> Option<StatementLine<'_>> {
-    let keys = lines_with(behind_lines(text, 1), b"key ");
-    let values = lines_with(behind_lines(text, keys.saturating_add(1)), b"value ");
-    let number = u64::from(number);
-    let before = if number <= values {
-        keys.saturating_add(number)
-    } else {
-        keys.saturating_add(number).saturating_add(2)
-    };
-    let rest = behind_lines(text, before);
-    let line = first_line(rest);
-    if number == 0 || rest.is_empty() || line == b"end".as_slice() {
-        return None;
-    }
-    Some(StatementLine {
-        line: before.saturating_add(1),
-        text: line,
-    })
 }
 
 /// A procedure in numbers.

@@ -4,8 +4,8 @@ use bohm_command::Program;
 
 /// What help says above the options.
 const ABOUT: &str = "\
-Checks whether the text on standard input is a log that bohm runs, or a
-procedure, and if it isn't, shows what to fix. Nothing is run.";
+Checks whether the text of a file, or on standard input, is a log that bohm runs,
+or a procedure, and if it isn't, shows what to fix. Nothing is run.";
 
 /// What help says below the options.
 const AFTER_HELP: &str = "\
@@ -34,21 +34,22 @@ statements count from 1. docs/log.md describes logs by examples.
 A note on a procedure of edition 1 names a statement that may read a key's value
 from before the transaction, where two of its arguments are one key.
 
-tidy writes the exact text of a loosely written log: with comments, indents,
+bohm-tidy writes the exact text of a loosely written log: with comments, indents,
 empty lines or its keys in any order.
 
 Examples:
-  check < bank.log
-  tidy < draft.txt > bank.log && check < bank.log
+  bohm-check bank.log
+  bohm-tidy draft.txt > bank.log && bohm-check bank.log
 
 Exit status:
-  0  the text is a log or a procedure, or this help was printed
+  0  the text is a log or a procedure, or help or the version was printed
   1  it isn't, or couldn't be read: standard error says why
-  2  the arguments were refused: standard error says why";
+  2  the arguments were refused, or the file can't be opened: standard error
+     says why";
 
 /// The program.
 pub const CHECK: Program<'static> = Program {
-    name: "check",
+    name: "bohm-check",
     about: ABOUT,
     after_help: AFTER_HELP,
 };

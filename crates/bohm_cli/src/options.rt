@@ -53,9 +53,10 @@ Examples:
   bohm < bank.log
   bohm --cc 3 --keep 10 --at 95 < bank.log
 
-docs/log.md describes logs, with examples. If a log is refused, check says what is
-wrong; tidy writes the exact text of a loosely written one. bench/README.md has the
-measurements, and docs/options.md says how to choose the numbers of workers.
+docs/log.md describes logs, with examples. If a log is refused, bohm-check says
+what is wrong; bohm-tidy writes the exact text of a loosely written one.
+bench/README.md has the measurements, and docs/options.md says how to choose the
+numbers of workers.
 
 Exit status:
   0  the answer was printed, or this help

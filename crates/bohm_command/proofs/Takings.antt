@@ -7,7 +7,7 @@ use Rattle.clap.specs.declared.error.kind.ErrorKind.{ErrorKind}
 use Rattle.bohm_command.specs.Taken.{AreTaken, faults_in, rows_in}
 use Rattle.bohm_command.specs.Faults.{IsOfKind, IsFoundAmong}
 use Rattle.bohm_command.specs.declared.fault.ArgumentFault.{ArgumentFault}
-use Rattle.bohm_command.specs.declared.fault.ArgumentFault.TheVariants.{Bad, Help, NoMemory}
+use Rattle.bohm_command.specs.declared.fault.ArgumentFault.TheVariants.{Bad, Help, Version, NoMemory}
 
 -- the command is the one defined, and the line is the program's name and the arguments
 module _ (app command : App) (line arguments : List Text) (is : command ≡ app) (whole : line ≡ app.top.name ∷ arguments) where
@@ -26,7 +26,9 @@ module _ (app command : App) (line arguments : List Text) (is : command ≡ app)
 -- if an error's kind is one of these, so is its fault
 pub found_among : (kinds : Kinds) (error : Error) (fault : ArgumentFault) → IsOfKind (kind_of error) fault → HasKind kinds error → IsFoundAmong kinds fault
 found_among kinds error (Bad text) said (inl is) = absurd (said.0 is)
-found_among kinds error (Bad text) said (inr among) = (kind_of error, said.1, among)
+found_among kinds error (Bad text) said (inr among) = (kind_of error, said.1, said.2, among)
 found_among kinds error (Help text) said (inl is) = absurd cc
 found_among kinds error (Help text) said (inr among) = subst (λ (kind : ErrorKind). IsAmong kind kinds) said among
+found_among kinds error (Version text) said (inl is) = absurd cc
+found_among kinds error (Version text) said (inr among) = subst (λ (kind : ErrorKind). IsAmong kind kinds) said among
 found_among kinds error NoMemory said has = tt

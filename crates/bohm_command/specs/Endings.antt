@@ -5,7 +5,7 @@ use Rattle.bohm_answer.specs.Bytes.{IsWriteFault}
 use Rattle.bohm_answer.specs.FaultLine.{fault_line}
 use Rattle.bohm_answer.specs.declared.fault.RunFault.TheVariants as run
 use Rattle.bohm_command.specs.declared.fault.ArgumentFault.{ArgumentFault}
-use Rattle.bohm_command.specs.declared.fault.ArgumentFault.TheVariants.{Bad, Help, NoMemory}
+use Rattle.bohm_command.specs.declared.fault.ArgumentFault.TheVariants.{Bad, Help, Version, NoMemory}
 use Rattle.bohm_command.specs.declared.ending.NoAnswer.{NoAnswer}
 use Rattle.bohm_command.specs.declared.ending.NoAnswer.TheVariants.{BadArguments, Run, Refused}
 
@@ -16,12 +16,17 @@ status_of (Err (BadArguments text)) = 2
 status_of (Err (Run fault)) = 1
 status_of (Err (Refused line)) = 1
 
+-- how a program ends that was asked for this text, and what was written to standard output
+abbrev pub Prints : {A : Type 0} → List ℕ → Option (List ℕ) → Option (List ℕ) → Result A NoAnswer → Type 0
+Prints text out out' (Ok answered) = Appends out out' text
+Prints text out out' (Err (Run fault)) = IsWriteFault out out' text fault
+Prints text out out' (Err (BadArguments other)) = ⊥
+Prints text out out' (Err (Refused line)) = ⊥
+
 -- how a program whose arguments made no request ends, and what was written to standard output
 abbrev pub Ends : {A : Type 0} → ArgumentFault → Option (List ℕ) → Option (List ℕ) → Result A NoAnswer → Type 0
-Ends (Help text) out out' (Ok answered) = Appends out out' (string_bytes text)
-Ends (Help text) out out' (Err (Run fault)) = IsWriteFault out out' (string_bytes text) fault
-Ends (Help text) out out' (Err (BadArguments other)) = ⊥
-Ends (Help text) out out' (Err (Refused line)) = ⊥
+Ends (Help text) out out' result = Prints (string_bytes text) out out' result
+Ends (Version text) out out' result = Prints (string_bytes text) out out' result
 Ends (Bad text) out out' result = Keeps out out' × (result ≡ Err (BadArguments text))
 Ends NoMemory out out' result = Keeps out out' × (result ≡ Err (Run run.NoMemory))
 

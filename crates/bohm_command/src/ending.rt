@@ -37,15 +37,18 @@ impl From<RunFault> for NoAnswer {
     }
 }
 
-/// Ends a program whose arguments made no request. If help was requested, it is the output.
+/// Ends a program whose arguments made no request. If help or the version was requested, it is the
+/// output.
 pub fn without_request<O: Write>(out: &mut O, fault: ArgumentFault) -> Result<(), NoAnswer>
     ensures { Ends fault (O.contents out.old) (O.contents out.new) result }
 {
     match fault {
-        ArgumentFault::Help(text) => match write_all(out, text.as_bytes()) {
-            Ok(()) => Ok(()),
-            Err(fault) => Err(NoAnswer::Run(fault)),
-        },
+        ArgumentFault::Help(text) | ArgumentFault::Version(text) => {
+            match write_all(out, text.as_bytes()) {
+                Ok(()) => Ok(()),
+                Err(fault) => Err(NoAnswer::Run(fault)),
+            }
+        }
         ArgumentFault::Bad(text) => Err(NoAnswer::BadArguments(text)),
         ArgumentFault::NoMemory => Err(NoAnswer::Run(RunFault::NoMemory)),
     }

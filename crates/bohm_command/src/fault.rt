@@ -17,6 +17,8 @@ pub enum ArgumentFault {
     Bad(String),
     /// Help was requested; its text.
     Help(String),
+    /// The version was requested; its line.
+    Version(String),
     /// An allocation failed.
     NoMemory,
 }
@@ -57,6 +59,7 @@ impl ArgumentFault {
         match kind {
             ErrorKind::OutOfMemory => ArgumentFault::NoMemory,
             ErrorKind::DisplayHelp => ArgumentFault::Help(text),
+            ErrorKind::DisplayVersion => ArgumentFault::Version(text),
             _ => ArgumentFault::Bad(text),
         }
     }

@@ -1,12 +1,12 @@
 -- The weights in `heaviest_to` and `heaviest_from` are weights of chains, and no chain is heavier.
-use Rattle.std.proofs.Common.{◌≡◌, ℕ, zero, suc, ◌+◌, ◌<◌, ◌≤◌, ◌⊎◌, ◌==◌, false, replicate, List, [], ◌∷◌, ◌++◌, length}
+use Rattle.std.proofs.Common.{◌≡◌, ℕ, zero, suc, ◌+◌, ◌<◌, ◌≤◌, ◌⊎◌, replicate, List, [], ◌∷◌, ◌++◌, length}
 use Rattle.std.proofs.Common.{slice_index, slice_index_or, sum_by, All, Contains, inl, inr, ⊎_elim, refl, sym, ap, subst, ◌∙◌, arith}
 use Rattle.std.proofs.lemmas.Bool.{cases_eq, cases_lt}
 use Rattle.std.proofs.lemmas.List.{get_or-replicate}
 use Rattle.std.proofs.lemmas.List.Sums.{sum_by-append, sum_by-cons}
 use Rattle.bohm_place.specs.Chains.{greatest}
 use Rattle.bohm_explain.specs.declared.arrow.Arrow.{Arrow}
-use Rattle.bohm_explain.specs.Heaviest.{IsInside, AreRising, heaviest_from, heaviest_to, on_longest}
+use Rattle.bohm_explain.specs.Heaviest.{IsInside, AreRising, heaviest_from, heaviest_to}
 use Rattle.bohm_explain.specs.Chains.{IsWantedBy, IsChainFrom, IsChain, BeginsAt, last_of, EndsAt, LeadsOn, weight_of, IsGreatest}
 use Rattle.bohm_explain.proofs.Greatest.{picked, taken, passed}
 use Rattle.bohm_explain.proofs.Rules.{paired_to, rule_to, rule_from}
@@ -79,16 +79,6 @@ module _ (n : ℕ) (arrows : List Arrow) where
 last_more : (p : ℕ) (rest : List ℕ) (q : ℕ) → last_of p (rest ++ q ∷ []) ≡ q
 last_more p [] q = refl
 last_more p (r ∷ rest) q = last_more r rest q
-
--- two chains make one if the second begins with the first's last position
-met : (n : ℕ) (arrows : List Arrow) (p : ℕ) (rest after : List ℕ) → IsChainFrom n arrows p rest
-    → IsChainFrom n arrows (last_of p rest) after → IsChainFrom n arrows p (rest ++ after)
-met n arrows p [] after chain more = more
-met n arrows p (r ∷ rest) after chain more = (chain.0, chain.1, met n arrows r rest after chain.2 more)
-
-has_last : (p : ℕ) (rest after : List ℕ) → Contains ((p ∷ rest) ++ after) (last_of p rest)
-has_last p [] after = contains_head p after
-has_last p (r ∷ rest) after = contains_tail p (last_of r rest) ((r ∷ rest) ++ after) (has_last r rest after)
 
 -- ---- the greatest number of a list
 
@@ -308,37 +298,6 @@ module _ (weights : List ℕ) (n : ℕ) (paired : length weights ≡ n) (arrows 
           let most = at_most (heaviest_to weights arrows) (last_of q rest) in
           omega (arith, low, most)
 
-  -- ---- chains through a position
-
-  -- if m and x weigh at most `to x`, then m, a chain from x through p, and p again weigh at most `to p` plus `from p`
-  by_position : (p k m x : ℕ) (rest : List ℕ) → k < length (x ∷ rest) → slice_index_or (x ∷ rest) k p ≡ p → IsChainFrom n arrows x rest
-      → m + own x ≤ to x → m + weight_of weights (x ∷ rest) + own p ≤ to p + from p
-  by_position p zero m x rest low at chain before =
-      let same : x ≡ p = at in
-      let later = behind_from x rest chain in
-      let t : to x ≡ to p = ap to same in let f : from x ≡ from p = ap from same in let o : own x ≡ own p = ap own same in
-      omega (arith, later, before, t, f, o, sum_by-cons own x rest)
-  by_position p (suc k) m x [] low at chain before = absurd (omega arith)
-  by_position p (suc k) m x (y ∷ rest) low at chain before =
-      let step = least_to x y chain.1 in
-      let more = by_position p k (m + own x) y rest (omega arith) at chain.2 (omega (arith, step, before)) in
-      omega (arith, more, sum_by-cons own x (y ∷ rest))
-
-  pub none_past : (p : ℕ) (chain : List ℕ) → IsChain n arrows chain → Contains chain p → weight_of weights chain + own p ≤ to p + from p
-  none_past p [] is has = absurd is
-  none_past p (x ∷ rest) is (k, low, at) = let h = by_position p k 0 x rest low at is (omega (arith, own_to x (starts x rest is))) in omega (arith, h)
-
-  pub chain_past : (p : ℕ) → p < n → (chain : List ℕ) × IsChain n arrows chain × Contains chain p × (weight_of weights chain + own p ≡ to p + from p)
-  chain_past p low =
-      let t = to_below (suc p) p (omega arith) low in
-      let f = from_above (suc n) p (omega arith) low in
-      let joined = sum_by-append own (t.first ∷ t.rest) f.rest in let l = t.weighs in let r = f.weighs in (
-        (t.first ∷ t.rest) ++ f.rest,
-        met n arrows t.first t.rest f.rest t.chain (subst (λ q. IsChainFrom n arrows q f.rest) (sym t.ends) f.chain),
-        subst (Contains ((t.first ∷ t.rest) ++ f.rest)) t.ends (has_last t.first t.rest f.rest),
-        omega (arith, joined, l, r, sum_by-cons own t.first t.rest),
-      )
-
 -- ---- chains whose positions weigh 1 each
 
 alike_at : (n p : ℕ) → p < n → slice_index (replicate n 1) p ≡ 1
@@ -364,10 +323,3 @@ measured f g Is m same h = record {
   measures = sym (same h.chain h.is) ∙ h.measures;
   none_above = λ other is. let low = h.none_above other is in omega (arith, low, same other is);
 }
-
-pub marked : (to from : List ℕ) (d p : ℕ) → p < length to → p < length from
-    → slice_index_or (on_longest to from d) p false ≡ ((slice_index to p + slice_index from p) == (d + 1))
-marked [] from d p low low' = absurd (omega arith)
-marked (t ∷ to) [] d p low low' = absurd (omega arith)
-marked (t ∷ to) (f ∷ from) d zero low low' = refl
-marked (t ∷ to) (f ∷ from) d (suc p) low low' = marked to from d p (omega arith) (omega arith)

@@ -1,5 +1,5 @@
 -- The greatest number at the other ends of the arrows that have one end at a position.
-use Rattle.std.proofs.Common.{◌≡◌, ◌≢◌, ℕ, ◌≤◌, ◌==◌, List, [], ◌∷◌, map, filter, max, ⊎_elim, refl, sym, ◌∙◌, arith}
+use Rattle.std.proofs.Common.{◌≡◌, ◌≢◌, ℕ, zero, suc, ◌≤◌, ◌==◌, All, List, [], ◌∷◌, map, filter, max, ⊎_elim, refl, sym, ◌∙◌, arith}
 use Rattle.std.proofs.lemmas.Bool.{cases_eq, eq-eqb, ne_eqb}
 use Rattle.std.proofs.Math.Nat.{max-le}
 use Rattle.bohm_place.specs.Chains.{greatest}
@@ -42,3 +42,14 @@ module _ (here there : Arrow → ℕ) where
   pub bounded : (number : ℕ → ℕ) (m : ℕ) (arrows : List Arrow) (p : ℕ) → ((q : ℕ) → number q ≤ m) → picked here there number arrows p ≤ m
   bounded number m [] p low = omega arith
   bounded number m (a ∷ rest) p low = no_more number m a rest p (low (there a)) (bounded number m rest p low)
+
+-- ---- the greatest number
+
+pub at_most_greatest : (ds : List ℕ) → All (λ d. d ≤ greatest ds) ds
+at_most_greatest [] i d inside = absurd (omega (arith, inside))
+at_most_greatest (x ∷ ds) zero d inside = omega arith
+at_most_greatest (x ∷ ds) (suc i) d inside = omega (arith, at_most_greatest ds i d (omega arith))
+
+pub greatest_at_most : (n : ℕ) (ds : List ℕ) → All (λ d. d ≤ n) ds → greatest ds ≤ n
+greatest_at_most n [] all = omega arith
+greatest_at_most n (x ∷ ds) all = omega (arith, all 0 0 (omega arith), greatest_at_most n ds (λ i d inside. all (suc i) d (omega arith)))

@@ -1,4 +1,4 @@
--- Each arrow leads to a later position of the batch, so both ends are in the batch.
+-- Each arrow leads to a later position of the part, so both ends are in the part.
 use Rattle.std.proofs.Common.{◌≡◌, ℕ, zero, suc, ◌<◌, ◌≤◌, List, [], ◌∷◌, All, Bool, true, false, cond, Option, Some, None, option_map, refl, arith}
 use Rattle.std.specs.List.{filter_map, cons_option}
 use Rattle.std.proofs.lemmas.List.Elements.{All-append, All-nil, All-cons}

@@ -1,4 +1,4 @@
--- The counts of a log's keys after one more batch.
+-- The counts of a log's keys after one more part.
 use Rattle.std.proofs.Common.{◌≡◌, ℕ, zero, suc, ◌+◌, Bool, true, false, cond, ◌||◌, List, [], ◌∷◌, ◌++◌, length, Option}
 use Rattle.std.proofs.Common.{Some, None, option_map, unwrap_or, slice_get, All, refl, sym, ap, subst, ◌∙◌, get_or}
 use Rattle.std.specs.List.{filter_map, cons_option, list_any}
@@ -21,7 +21,7 @@ use Rattle.bohm_explain.specs.Tallies.{IsTallied, counted_in, lists, raised, tal
 use Rattle.bohm_explain.specs.Wanted.{arrow_of, arrows, arrows_at, arrows_below, arrows_in, is_sure_at, keys_at, newest_before}
 use Rattle.bohm_explain.proofs.Raising.{chain_push}
 
--- ---- the counts after one more batch
+-- ---- the counts after one more part
 
 counted_more : (k : List ℕ) (log txns : List Txn) (batches : List Chained) (batch : Chained) (old mid new : Tally)
     → old ≡ record { writers = writers_of k log; readers = readers_of k log; chain = chain_of k batches }

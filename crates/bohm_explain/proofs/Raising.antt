@@ -31,7 +31,7 @@ no_chain k (a ∷ more) (n ∷ ns) (inr e) = absurd (omega arith)
 pub raised_none : (t : Tally) → raised t 0 ≡ t
 raised_none t = let same : max t.chain 0 ≡ t.chain = omega arith in ap (λ (c : ℕ). record { writers = t.writers; readers = t.readers; chain = c }) same
 
--- ---- the longest chain after one more batch
+-- ---- the longest chain after one more part
 
 pub chain_push : (k : List ℕ) (batches : List Chained) (batch : Chained) → chain_of k (batches ++ batch ∷ []) ≡ max (chain_of k batches) (chain_in k batch)
 chain_push k [] batch = let same : max (chain_in k batch) 0 ≡ max 0 (chain_in k batch) = omega arith in same

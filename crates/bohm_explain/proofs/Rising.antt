@@ -1,4 +1,4 @@
--- The arrows of a batch lead to later positions, and are in the order of the positions that they lead to.
+-- The arrows of a part lead to later positions, and are in the order of the positions that they lead to.
 use Rattle.std.proofs.Common.{◌≡◌, ℕ, zero, suc, ◌≤◌, List, [], ◌∷◌, ◌++◌, length, All, Bool, true}
 use Rattle.std.proofs.Common.{false, cond, Option, Some, None, option_map, refl, sym, subst, arith}
 use Rattle.std.specs.List.{filter_map, cons_option}
@@ -52,7 +52,7 @@ rising_below txns (suc p) = joined zero p (arrows_below txns p) (arrows_at txns 
 pub rising : (txns : List Txn) → AreRising zero (arrows txns)
 rising txns = rising_below txns (length txns)
 
--- the arrows of a batch are chainable with any weights that are light enough
+-- the arrows of a part are chainable with any weights that are light enough
 pub chainable : (txns : List Txn) (weights : List ℕ) (wanted : List Arrow) → length txns ≤ 4096 → length weights ≡ length txns → All (λ w. w ≤ 3072) weights
     → wanted ≡ arrows txns → length wanted ≤ 131072 → AreChainable weights wanted
 chainable txns weights wanted few paired light is few_arrows =

@@ -1,4 +1,4 @@
--- An arrow leads from a position of a batch to another exactly if the second wants the first's version on the board.
+-- An arrow leads from a position of a part to another exactly if the second wants the first's version on the board.
 use Rattle.std.proofs.Common.{◌≡◌, ℕ, zero, suc, ◌+◌, ◌-◌, ◌<◌, List, [], ◌∷◌, ◌++◌, length, Bool, true, false, cond, Option, Some}
 use Rattle.std.proofs.Common.{None, slice_get, unwrap_or, option_map, Contains, refl, sym, subst, ap, ◌∙◌, ⊎_elim, ◌⊎◌, inl, inr, arith}
 use Rattle.std.specs.List.{filter_map, cons_option}
@@ -127,7 +127,7 @@ ends_there txns q r c =
     by true (k, low, is) = absurd (omega (arith, low))
     by false h = ends_at txns q (keys_at Writes txns q) r h
 
--- ---- the arrows of a batch
+-- ---- the arrows of a part
 
 module _ (b : Batch) (right : IsRightPlan (txns_of b) (plan_of b)) (t u : ℕ) (in_t : IsIn b t) (in_u : IsIn b u) where
   inside : position b t < length (txns_of b)

@@ -1,4 +1,4 @@
--- Chains of wanted versions. A chain is a list of positions of a batch, each of which but the first wants a version of the one before.
+-- Chains of wanted versions. A chain is a list of positions of a part, each of which but the first wants a version of the one before.
 use Rattle.std.specs.Prelude.{◌≡◌, ℕ, ◌<◌, ◌≤◌, List, [], ◌∷◌, ◌++◌, Contains, length, slice_index, sum_by}
 use Rattle.bohm_types.specs.Txn.{Txn}
 use Rattle.bohm_explain.specs.declared.arrow.Arrow.{Arrow}
@@ -17,7 +17,7 @@ abbrev pub IsChain : ℕ → List Arrow → List ℕ → Type 0
 IsChain n arrows [] = ⊥
 IsChain n arrows (p ∷ rest) = IsChainFrom n arrows p rest
 
--- a chain of a batch's transactions
+-- a chain of a part's transactions
 abbrev pub IsChainOf : List Txn → List ℕ → Type 0
 IsChainOf txns chain = IsChain (length txns) (arrows txns) chain
 
@@ -44,13 +44,6 @@ pub record LeadsOn (p q : ℕ) (chain : List ℕ) : Type 0 where
 -- the total weight of its positions
 abbrev pub weight_of : List ℕ → List ℕ → ℕ
 weight_of weights chain = sum_by (slice_index weights) chain
-
--- there is a chain of a batch's transactions with this one in it, and of this length
-pub record IsOn (txns : List Txn) (p length_of_it : ℕ) : Type 0 where
-  pub chain : List ℕ
-  pub is : IsChainOf txns chain
-  pub has : Contains chain p
-  pub long : length chain ≡ length_of_it
 
 -- one of these chains has this measure, and none has a greater one
 pub record IsGreatest (measure : List ℕ → ℕ) (Is : List ℕ → Type 0) (n : ℕ) : Type 0 where

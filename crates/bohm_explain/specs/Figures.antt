@@ -1,10 +1,11 @@
--- The figures of a batch, and of a log that is cut into batches.
-use Rattle.std.specs.Prelude.{ℕ, zero, suc, ◌≤◌, fold, ◌+◌, ◌-◌, ◌*◌, ◌/◌, List, [], ◌∷◌, ◌++◌, length, take, drop, replicate, sum, sum_by, count_by}
+-- The figures of a part, and of a log.
+use Rattle.std.specs.Prelude.{ℕ, ◌≤◌, fold, ◌+◌, List, length, replicate, sum, sum_by, count_by}
 use Rattle.bohm_types.specs.Txn.{Txn}
 use Rattle.bohm_txn.specs.Sure.{is_sure}
 use Rattle.bohm_place.specs.Chains.{greatest}
 use Rattle.bohm_explain.specs.declared.figures.Figures.{Figures}
 use Rattle.bohm_explain.specs.declared.figures.Totals.{Totals}
+use Rattle.bohm_explain.specs.declared.parts.Part.{Part}
 use Rattle.bohm_explain.specs.Heaviest.{heaviest_to}
 use Rattle.bohm_explain.specs.Wanted.{arrows}
 use Rattle.bohm_explain.specs.Weighing.{weights, declared_by}
@@ -28,23 +29,7 @@ figures_of txns = record {
   heaviest = greatest (heaviest_to (weights txns) (arrows txns));
 }
 
--- ---- batches of a log, counted from 0
-
-abbrev pub batch_at : ℕ → List Txn → ℕ → List Txn
-batch_at size log i = take size (drop (i * size) log)
-
-abbrev pub batch_count : ℕ → List Txn → ℕ
-batch_count size log = (length log + (size - 1)) / size
-
--- the figures of the first n batches
-abbrev pub figures_below : ℕ → List Txn → ℕ → List Figures
-figures_below size log zero = []
-figures_below size log (suc n) = figures_below size log n ++ figures_of (batch_at size log n) ∷ []
-
-abbrev pub figures_in : ℕ → List Txn → List Figures
-figures_in size log = figures_below size log (batch_count size log)
-
--- ---- of the whole log: batches run one after another, so their depths add up
+-- ---- of the whole log: parts run one after another, so their depths add up
 
 abbrev pub nothing : Totals
 nothing = record { transactions = 0; keys = 0; sure = 0; taken = 0; depth = 0; terms = 0; heaviest = 0 }
@@ -60,8 +45,8 @@ plus t f = record {
   heaviest = t.heaviest + f.heaviest;
 }
 
-abbrev pub totals_of : List Figures → Totals
-totals_of fs = fold plus nothing fs
+abbrev pub totals_of : List Part → Totals
+totals_of ps = fold (λ t p. plus t p.figures) nothing ps
 
 -- none is above n
 pub record AreAtMost (n : ℕ) (t : Totals) : Type 0 where

@@ -20,7 +20,7 @@ writers_of k log = count_by (λ t. is_among t.writes k) log
 abbrev pub readers_of : List ℕ → List Txn → ℕ
 readers_of k log = count_by (λ t. is_among t.reads k) log
 
--- the arrows of a batch, each with the transactions on the longest chain through it
+-- the arrows of a part, each with the transactions on the longest chain through it
 abbrev pub Chained : Type 0
 Chained = List (Arrow × ℕ)
 
@@ -28,7 +28,7 @@ Chained = List (Arrow × ℕ)
 abbrev pub chain_in : List ℕ → Chained → ℕ
 chain_in k arrows = greatest (map (λ a. a.1) (filter (λ a. bytes_eq a.0.key k) arrows))
 
--- the longest such chain in any of these batches
+-- the longest such chain in any of these parts
 abbrev pub chain_of : List ℕ → List Chained → ℕ
 chain_of k batches = greatest (map (chain_in k) batches)
 

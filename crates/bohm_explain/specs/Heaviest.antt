@@ -1,5 +1,5 @@
 -- Chains of wanted versions, and the greatest weight of one. Each position of a chain but the first wants the version of the one before.
-use Rattle.std.specs.Prelude.{ℕ, zero, suc, ◌+◌, ◌-◌, ◌<◌, ◌≤◌, ◌==◌, List, [], ◌∷◌, ◌++◌, All, Bool, length, map, filter, zip, slice_index}
+use Rattle.std.specs.Prelude.{ℕ, zero, suc, ◌+◌, ◌-◌, ◌<◌, ◌≤◌, ◌==◌, List, [], ◌∷◌, ◌++◌, All, length, map, filter, slice_index}
 use Rattle.bohm_place.specs.Chains.{greatest}
 use Rattle.bohm_explain.specs.declared.arrow.Arrow.{Arrow}
 use Rattle.bohm_types.specs.Limits.{largest_batch}
@@ -8,7 +8,7 @@ use Rattle.bohm_types.specs.Limits.{largest_batch}
 abbrev pub greatest_weight : ℕ
 greatest_weight = 3072
 
--- versions that a batch's transactions want: one for each declared key
+-- versions that a part's transactions want: one for each declared key
 abbrev pub most_arrows : ℕ
 most_arrows = 131072
 
@@ -66,7 +66,3 @@ heaviest_from weights arrows = beginning_from 0 weights arrows
 -- the heaviest chain through each arrow, from the heaviest ones to and from each position
 abbrev pub through : List ℕ → List ℕ → List Arrow → List ℕ
 through to from arrows = map (λ a. slice_index to a.from + slice_index from a.to) arrows
-
--- whether each position is on a chain of `depth` transactions: the chain to it and the chain from it both count it
-abbrev pub on_longest : List ℕ → List ℕ → ℕ → List Bool
-on_longest to from depth = map (λ p. (p.0 + p.1) == (depth + 1)) (zip to from)

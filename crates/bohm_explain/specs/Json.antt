@@ -1,10 +1,12 @@
 -- Figures in JSON. A key needs no escapes: it has only lower-case letters, digits and underscores.
-use Rattle.std.specs.Prelude.{ℕ, zero, suc, ◌+◌, Bool, List, [], ◌∷◌, ◌++◌, take, codes, decimal, if◌then◌else◌}
-use Rattle.bohm_explain.specs.declared.figures.Figures.{Figures}
+use Rattle.std.specs.Prelude.{ℕ, zero, suc, ◌+◌, min, Bool, List, [], ◌∷◌, ◌++◌, take, codes, decimal, if◌then◌else◌}
+use Rattle.bohm_settings.specs.Given.{Given}
 use Rattle.bohm_explain.specs.declared.figures.Totals.{Totals}
 use Rattle.bohm_explain.specs.declared.heat.Heat.{Heat}
+use Rattle.bohm_explain.specs.declared.parts.Part.{Part}
+use Rattle.bohm_explain.specs.Asked.{Asked}
 use Rattle.bohm_explain.specs.Figures.{alone, totals_of}
-use Rattle.bohm_explain.specs.Table.{hundredths, hundredths_cell}
+use Rattle.bohm_explain.specs.Table.{hundredths, hundredths_cell, word_for}
 use Rattle.bohm_explain.specs.Verdict.{execution_limit, run_limit}
 
 -- a field of an object after others
@@ -36,24 +38,27 @@ abbrev pub separator : ℕ → List ℕ
 separator zero = codes "\n"
 separator (suc n) = codes ",\n"
 
-abbrev pub figures_item : ℕ → Totals → List ℕ
-figures_item n t = separator n ++ figures_json t
+-- how it runs, and its figures
+abbrev pub part_item : ℕ → Part → List ℕ
+part_item n p =
+    separator n ++ codes "{\"from\":" ++ decimal p.first ++ codes ",\"run\":\"" ++ word_for p.sharing ++ codes "\",\"figures\":"
+    ++ figures_json (alone p.figures) ++ codes "}"
 
 abbrev pub heat_item : ℕ → Heat → List ℕ
 heat_item n h = separator n ++ heat_json h
 
--- the items of these figures, with n items before them
-abbrev pub figures_from : ℕ → List Figures → List ℕ
-figures_from n [] = []
-figures_from n (f ∷ fs) = figures_item n (alone f) ++ figures_from (n + 1) fs
+-- these parts, with n items before them
+abbrev pub parts_from : ℕ → List Part → List ℕ
+parts_from n [] = []
+parts_from n (p ∷ ps) = part_item n p ++ parts_from (n + 1) ps
 
 abbrev pub heats_from : ℕ → List Heat → List ℕ
 heats_from n [] = []
 heats_from n (h ∷ hs) = heat_item n h ++ heats_from (n + 1) hs
 
--- the figures of each batch; a summary leaves them out
-abbrev pub batches_json : Bool → List Figures → List ℕ
-batches_json summary fs = if summary then [] else (codes "\"batches\":[" ++ figures_from 0 fs ++ codes "],\n")
+-- each part; a summary leaves them out
+abbrev pub parts_json : Bool → List Part → List ℕ
+parts_json summary ps = if summary then [] else (codes "\"parts\":[" ++ parts_from 0 ps ++ codes "],\n")
 
 -- the first `top` keys
 abbrev pub hottest_json : ℕ → List Heat → List ℕ
@@ -78,7 +83,12 @@ places_from n (place ∷ places) = place_item n place ++ places_from (n + 1) pla
 abbrev pub chain_json : List ℕ → List ℕ
 chain_json places = codes ",\n\"longest_chain\":[" ++ places_from 0 places ++ codes "]"
 
-abbrev pub json_text : Bool → ℕ → List Figures → List Heat → List ℕ → List ℕ
-json_text summary top fs ranked longest =
-    codes "{" ++ batches_json summary fs ++ codes "\"all\":" ++ figures_json (totals_of fs)
-    ++ hottest_json top ranked ++ chain_json longest ++ limits_json (totals_of fs) ++ codes "}\n"
+-- the partitions of the keys in which a shared part is planned, and the workers that plan them
+abbrev pub planning_json : Given → List ℕ
+planning_json given =
+    codes ",\n\"partitions\":" ++ decimal given.parts ++ codes ",\"planning_workers\":" ++ decimal (min given.cc given.parts)
+
+abbrev pub json_text : Asked → List Part → List Heat → List ℕ → List ℕ
+json_text asked ps ranked longest =
+    codes "{" ++ parts_json asked.layout.summary ps ++ codes "\"all\":" ++ figures_json (totals_of ps)
+    ++ hottest_json asked.top ranked ++ chain_json longest ++ limits_json (totals_of ps) ++ planning_json asked.given ++ codes "}\n"

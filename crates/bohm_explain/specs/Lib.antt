@@ -15,5 +15,6 @@ pub mod ChainText
 pub mod Longest
 pub mod Walks
 pub mod Printed
-pub mod Picture
+pub mod Parts
 pub mod Waiting
+pub mod Aborts

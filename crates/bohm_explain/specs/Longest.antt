@@ -1,4 +1,4 @@
--- The longest chain of a batch.
+-- The longest chain of a part.
 use Rattle.std.specs.Prelude.{◌≡◌, ℕ, ◌+◌, ◌<◌, ◌≤◌, ◌⊎◌, List, length, map}
 use Rattle.bohm_types.specs.Txn.{Txn}
 use Rattle.bohm_place.specs.Chains.{greatest}

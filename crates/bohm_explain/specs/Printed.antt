@@ -1,110 +1,103 @@
 -- The text that is printed for a log.
-use Rattle.std.specs.Prelude.{◌≡◌, ℕ, zero, suc, ◌+◌, ◌-◌, ◌*◌, ◌<◌, ◌≤◌, ◌⊎◌, List, [], ◌∷◌, ◌++◌}
-use Rattle.std.specs.Prelude.{length, map, Bool, if◌then◌else◌, Option, Some, None, IfSome, IsSomeAnd}
+use Rattle.std.specs.Prelude.{◌≡◌, ℕ, zero, suc, ◌+◌, ◌<◌, ◌≤◌, ◌⊎◌, List, [], ◌∷◌, ◌++◌}
+use Rattle.std.specs.Prelude.{length, map, if◌then◌else◌, Option, Some, None, IsSomeAnd}
 use Rattle.std.specs.List.{zip}
 use Rattle.bohm_types.specs.Txn.{Txn}
-use Rattle.bohm_txn.specs.Sure.{is_sure}
-use Rattle.bohm_place.specs.Chains.{greatest}
-use Rattle.bohm_explain.specs.declared.figures.Figures.{Figures}
+use Rattle.bohm_settings.specs.Given.{Given}
+use Rattle.bohm_place.specs.Cuttings.{Cutting, first_at, txns_at}
+use Rattle.bohm_read_ahead.specs.declared.checked_chunk.Sharing.{Sharing}
 use Rattle.bohm_explain.specs.declared.heat.Heat.{Heat}
-use Rattle.bohm_explain.specs.declared.layout.Layout.{Layout}
+use Rattle.bohm_explain.specs.declared.parts.Part.{Part}
 use Rattle.bohm_explain.specs.Asked.{Asked}
 use Rattle.bohm_explain.specs.ChainText.{chain_text}
-use Rattle.bohm_explain.specs.Chains.{IsChainOf, weight_of}
-use Rattle.bohm_explain.specs.Figures.{alike, batch_at, batch_count, depths, figures_in, totals_of}
+use Rattle.bohm_explain.specs.Chains.{IsChainOf}
+use Rattle.bohm_explain.specs.Figures.{alike, depths, totals_of}
 use Rattle.bohm_explain.specs.Heats.{AreHeatsOf, Chained}
-use Rattle.bohm_explain.specs.Heaviest.{heaviest_from, on_longest, through}
+use Rattle.bohm_explain.specs.Heaviest.{heaviest_from, through}
 use Rattle.bohm_explain.specs.Hottest.{hottest_text}
 use Rattle.bohm_explain.specs.Json.{json_text}
-use Rattle.bohm_explain.specs.Picture.{picture_text}
+use Rattle.bohm_explain.specs.Parts.{AreCut, parts_in}
 use Rattle.bohm_explain.specs.Ranking.{IsRanking}
 use Rattle.bohm_explain.specs.Table.{table_text}
 use Rattle.bohm_explain.specs.Verdict.{verdict_text}
 use Rattle.bohm_explain.specs.Wanted.{arrows}
-use Rattle.bohm_explain.specs.Weighing.{weights}
 
 -- the transactions on the longest chain of wanted versions that begins at each position
 abbrev pub heights : List Txn → List ℕ
 heights txns = heaviest_from (alike txns) (arrows txns)
 
--- the arrows of a batch, each with the transactions on the longest chain through it
+-- the arrows of a part, each with the transactions on the longest chain through it
 abbrev pub chained : List Txn → Chained
 chained txns = zip (arrows txns) (through (depths txns) (heights txns) (arrows txns))
 
--- of the first n batches
-abbrev pub chained_below : ℕ → List Txn → ℕ → List Chained
-chained_below size log zero = []
-chained_below size log (suc n) = chained_below size log n ++ chained (batch_at size log n) ∷ []
+-- of the first n parts
+abbrev pub chained_below : Cutting → ℕ → List Chained
+chained_below c zero = []
+chained_below c (suc n) = chained_below c n ++ chained (txns_at c n) ∷ []
 
-abbrev pub chained_in : ℕ → List Txn → List Chained
-chained_in size log = chained_below size log (batch_count size log)
+abbrev pub chained_in : Cutting → List Chained
+chained_in c = chained_below c (length c.sizes)
 
 -- ---- the longest chain
 
--- a chain of a batch's transactions, as places in the log
-pub record IsPlacedChain (size : ℕ) (log : List Txn) (places : List ℕ) : Type 0 where
+-- a chain of a part's transactions, as places in the log
+pub record IsPlacedChain (c : Cutting) (places : List ℕ) : Type 0 where
   pub index : ℕ
-  pub there : index < batch_count size log
+  pub there : index < length c.sizes
   pub chain : List ℕ
-  pub is : IsChainOf (batch_at size log index) chain
-  pub placed : places ≡ map (λ p. (index * size + 1) + p) chain
+  pub is : IsChainOf (txns_at c index) chain
+  pub placed : places ≡ map (λ p. first_at c index + p) chain
 
 -- no such chain is longer; it is empty if the log has no transactions
-pub record IsLongestChain (size : ℕ) (log : List Txn) (places : List ℕ) : Type 0 where
-  pub placed : (places ≡ []) ⊎ IsPlacedChain size log places
-  pub none_longer : (other : List ℕ) → IsPlacedChain size log other → length other ≤ length places
+pub record IsLongestChain (c : Cutting) (places : List ℕ) : Type 0 where
+  pub placed : (places ≡ []) ⊎ IsPlacedChain c places
+  pub none_longer : (other : List ℕ) → IsPlacedChain c other → length other ≤ length places
 
 -- ---- figures
 
--- a table, the first `top` keys, the longest chain and the last line; or the same figures in JSON
-abbrev pub figures_text : Layout → ℕ → List Figures → List Heat → List ℕ → List ℕ
-figures_text layout top fs ranked longest =
-    if layout.json then json_text layout.summary top fs ranked longest
-    else (table_text layout.summary fs ++ hottest_text top ranked ++ chain_text longest ++ verdict_text (totals_of fs) ranked)
+-- a table, the first `top` keys, the longest chain and the last line; or the same in JSON
+abbrev pub figures_text : Asked → List Part → List Heat → List ℕ → List ℕ
+figures_text asked ps ranked longest =
+    if asked.layout.json then json_text asked ps ranked longest
+    else (table_text asked.layout.summary ps ++ hottest_text asked.top ranked ++ chain_text longest ++ verdict_text (totals_of ps) ranked)
 
--- the figures of a log, its keys, the hottest first, and a longest chain
-pub record IsTextOf (size top : ℕ) (layout : Layout) (log : List Txn) (text : List ℕ) : Type 0 where
+-- the parts that a run with these settings makes, in order and together the log: where each begins and ends, and how it runs
+pub record IsCutUp (given : Given) (log : List Txn) : Type 0 where
+  pub sizes : List ℕ
+  pub how : List Sharing
+  pub are_cut : AreCut given log sizes how
+
+abbrev pub cut_up : (given : Given) (log : List Txn) → IsCutUp given log → Cutting
+cut_up given log h = record { first = 1; log = log; sizes = h.sizes }
+
+-- the figures of a log's parts, its keys, the hottest first, and a longest chain
+pub record IsTextOf (asked : Asked) (log : List Txn) (text : List ℕ) : Type 0 where
+  pub cut : IsCutUp asked.given log
   pub heats : List Heat
   pub ranked : List Heat
   pub chain : List ℕ
-  pub are_heats : AreHeatsOf log (chained_in size log) heats
+  pub are_heats : AreHeatsOf log (chained_in (cut_up asked.given log cut)) heats
   pub is_ranking : IsRanking heats ranked
-  pub is_longest : IsLongestChain size log chain
-  pub says : text ≡ figures_text layout top (figures_in size log) ranked chain
-
--- ---- a picture
-
--- whether each transaction is on one of the longest chains of its batch
-abbrev pub longest : List Txn → List Bool
-longest txns = on_longest (depths txns) (heights txns) (greatest (depths txns))
-
--- a chain of the batch such that no chain has more terms
-pub record IsHeaviestChain (txns : List Txn) (chain : List ℕ) : Type 0 where
-  pub is : IsChainOf txns chain
-  pub none_heavier : (other : List ℕ) → IsChainOf txns other → weight_of (weights txns) other ≤ weight_of (weights txns) chain
-
--- the picture of a batch; if the batch is large, with one of its heaviest chains
-pub record IsPictureOf (number first : ℕ) (txns : List Txn) (text : List ℕ) : Type 0 where
-  pub chain : List ℕ
-  pub is_heaviest : IsHeaviestChain txns chain
-  pub says : text ≡ picture_text number first (map is_sure txns) (arrows txns) (depths txns) (longest txns) chain
-
--- the picture of the batch with this number, counted from 1
-abbrev pub IsPictureIn : ℕ → List Txn → ℕ → List ℕ → Type 0
-IsPictureIn size log number text = IsPictureOf number ((number - 1) * size + 1) (batch_at size log (number - 1)) text
+  pub is_longest : IsLongestChain (cut_up asked.given log cut) chain
+  pub says : text ≡ figures_text asked (parts_in (cut_up asked.given log cut) cut.how) ranked chain
 
 -- ---- requests
 
--- the picture of a batch, or the figures if no picture is requested
+-- the log has the part whose conflicts are drawn
+pub record HasPart (given : Given) (log : List Txn) (number : ℕ) : Type 0 where
+  pub cut : IsCutUp given log
+  pub there : number ≤ length cut.sizes
+
+-- the figures, unless a picture is requested: no clause says what that shows
 abbrev pub Says : Asked → List Txn → List ℕ → Option ℕ → Type 0
-Says asked log text None = IsTextOf asked.batch asked.top asked.layout log text
-Says asked log text (Some number) = IsPictureIn asked.batch log number text
+Says asked log text None = IsTextOf asked log text
+Says asked log text (Some number) = HasPart asked.given log number
 
--- the log has the batch whose picture is requested, if any, and this is the text that answers the request
-pub record IsAnswerTo (asked : Asked) (log : List Txn) (text : List ℕ) : Type 0 where
-  pub there : IfSome asked.picture (λ number. number ≤ batch_count asked.batch log)
-  pub says : Says asked log text asked.picture
+-- this text answers the request
+abbrev pub IsAnswerTo : Asked → List Txn → List ℕ → Type 0
+IsAnswerTo asked log text = Says asked log text asked.picture
 
--- a picture is requested of a batch that the log doesn't have
-abbrev pub LacksBatch : Asked → List Txn → Type 0
-LacksBatch asked log = IsSomeAnd asked.picture (λ number. batch_count asked.batch log < number)
+-- the conflicts of a part are requested that the log doesn't have
+pub record LacksPart (asked : Asked) (log : List Txn) : Type 0 where
+  pub cut : IsCutUp asked.given log
+  pub less : IsSomeAnd asked.picture (λ number. length cut.sizes < number)

@@ -1,4 +1,4 @@
--- The counts of each key while a log's batches are processed.
+-- The counts of each key while a log's parts are processed.
 use Rattle.std.specs.Prelude.{◌≡◌, ℕ, ◌+◌, ◌<◌, ◌^◌, List, max, Bool, unwrap_or, is_some}
 use Rattle.std.specs.List.{list_any}
 use Rattle.std.specs.Str.{bytes_eq}
@@ -50,14 +50,14 @@ lists m k = is_some (get bytes_eq m k)
 abbrev pub HasRoomFor : {S : Type 0} → ℕ → HashMap (List ℕ) Tally S → Type 0
 HasRoomFor n m = (set : DeclaredSet) (k : List ℕ) → HasRoom set n (tally m k)
 
--- exactly the keys that the log declares are listed, each with its counts in the log and its batches
+-- exactly the keys that the log declares are listed, each with its counts in the log and its parts
 pub record IsTallied {S : Type 0} (log : List Txn) (batches : List Chained) (m : HashMap (List ℕ) Tally S) : Type 0 where
   pub counts : (k : List ℕ) → tally m k ≡ record { writers = writers_of k log; readers = readers_of k log; chain = chain_of k batches }
   pub listed : (k : List ℕ) → lists m k ≡ list_any (declares k) log
 
 -- ---- a gathering
 
--- the gathering has processed a log of these batches
+-- the gathering has processed a log of these parts
 abbrev pub IsGathered : List Txn → List Chained → Gathering → Type 0
 IsGathered log batches g = IsTallied log batches g.tallies
 

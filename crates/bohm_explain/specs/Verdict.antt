@@ -7,7 +7,7 @@ use Rattle.bohm_explain.specs.declared.figures.Totals.{Totals}
 use Rattle.bohm_explain.specs.declared.heat.Heat.{Heat}
 use Rattle.bohm_explain.specs.Table.{hundredths_cell}
 
--- the transactions on the longest chain of a batch, or 0 if no version is wanted
+-- the transactions on the longest chain of a part, or 0 if no version is wanted
 abbrev pub longest : List Heat → ℕ
 longest heats = greatest (map (λ h. h.chain) heats)
 
@@ -42,9 +42,9 @@ key_words t h =
     ++ limit_words t
 
 abbrev pub free_words : Totals → List ℕ
-free_words t = codes "no transaction waits for another of its batch: " ++ limit_words t
+free_words t = codes "no transaction waits for another of its part: " ++ limit_words t
 
--- if no key is on a chain, no transaction wants a version of its batch
+-- if no key is on a chain, no transaction wants a version of its part
 abbrev pub waiting_words : Totals → Option Heat → List ℕ
 waiting_words t None = free_words t
 waiting_words t (Some h) = key_words t h

@@ -1,4 +1,4 @@
--- The versions that a batch's transactions wait for.
+-- The versions that a part's transactions wait for.
 use Rattle.std.specs.Prelude.{◌≡◌, ◌≤◌, ◌^◌, List, All, length}
 use Rattle.bohm_types.specs.Txn.{Txn}
 use Rattle.bohm_explain.specs.declared.waits.Waits.{Waits}

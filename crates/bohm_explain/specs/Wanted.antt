@@ -1,4 +1,4 @@
--- Which transactions of a batch want which versions: its arrows. Positions in a batch are counted from 0.
+-- Which transactions of a part want which versions: its arrows. Positions in a part are counted from 0.
 use Rattle.std.specs.Prelude.{ℕ, zero, suc, ◌-◌, List, [], ◌++◌, length, Bool, false, Option, Some, None, slice_get, unwrap_or, filter_map, if◌then◌else◌}
 use Rattle.std.specs.Option.{option_map}
 use Rattle.bohm_types.specs.Txn.{Txn}
@@ -20,12 +20,12 @@ abbrev pub newest_before : List Txn → List ℕ → ℕ → Option ℕ
 newest_before txns k zero = None
 newest_before txns k (suc p) = if writes_at txns k p then Some p else newest_before txns k p
 
--- the position of a source, in a batch that starts at a timestamp
+-- the position of a source, in a part that starts at a timestamp
 abbrev pub place_of : ℕ → Source → Option ℕ
 place_of first Before = None
 place_of first (Within u) = Some (u - first)
 
--- the arrow for the key, if a transaction of the batch writes it before this position
+-- the arrow for the key, if a transaction of the part writes it before this position
 abbrev pub arrow_of : List Txn → ℕ → List ℕ → Option Arrow
 arrow_of txns p k = option_map (λ f. record { from = f; to = p; key = k }) (newest_before txns k p)
 
@@ -48,6 +48,6 @@ abbrev pub arrows_below : List Txn → ℕ → List Arrow
 arrows_below txns zero = []
 arrows_below txns (suc p) = arrows_below txns p ++ arrows_at txns p
 
--- the versions of the batch that its transactions want, in the order of the transactions that want them
+-- the versions of the part that its transactions want, in the order of the transactions that want them
 abbrev pub arrows : List Txn → List Arrow
 arrows txns = arrows_below txns (length txns)

@@ -14,7 +14,7 @@ use bohm_types::{Key, NoMemory};
 use std::alloc::Global;
 
 /// The transaction at `to` wants the version of the key that the transaction at `from` produces.
-/// Both are positions in their batch, counted from 0.
+/// Both are positions in their part, counted from 0.
 #[derive(Clone, Copy, Debug, PartialEq, Eq)]
 pub struct Arrow {
     pub from: u32,
@@ -53,7 +53,7 @@ fn put_arrows(
     Ok(())
 }
 
-/// The versions of the batch that its transactions want, in log order: those of their reads and,
+/// The versions of the part that its transactions want, in log order: those of their reads and,
 /// unless they are sure, those that their writes replace. The time grows with the number of
 /// declared keys.
 pub fn wanted(alloc: Global, plan: &Plan, txns: &LogPart<'_>) -> Result<Vec<Arrow>, NoMemory>

@@ -2,7 +2,7 @@
 
 ghost use Rattle.std.specs.Prelude.{◌≡◌, ◌≤◌, ◌^◌, All, length, IfOk};
 ghost use Rattle.bohm_explain.specs.Heaviest.{AreChainable, IsInside, heaviest_from};
-ghost use Rattle.bohm_explain.specs.Heaviest.{heaviest_to, on_longest, through};
+ghost use Rattle.bohm_explain.specs.Heaviest.{heaviest_to, through};
 
 use crate::arrow::Arrow;
 use bohm_types::NoMemory;
@@ -61,26 +61,4 @@ pub fn chains_through(
         chains.push(to[arrow.from as usize] + from[arrow.to as usize])?;
     }
     Ok(chains)
-}
-
-/// Whether each position of a batch, whose transactions weigh the same, is on one of its longest
-/// chains, which have `depth` transactions.
-pub fn on_longest(
-    alloc: Global,
-    to: &[u32],
-    from: &[u32],
-    depth: u32,
-) -> Result<Vec<bool>, NoMemory>
-    requires paired { length from.now ≡ length to.now }
-    requires light_to { All (λ c. c ≤ 2 ^ 24) to.now }
-    requires light_from { All (λ c. c ≤ 2 ^ 24) from.now }
-    requires depth { depth ≤ 2 ^ 24 }
-    ensures longest { IfOk result (λ v. v.items ≡ on_longest to.now from.now depth) }
-    ensures paired { IfOk result (λ v. length v.items ≡ length to.now) }
-{
-    let mut longest = Vec::with_capacity(alloc, to.len())?;
-    for (to, from) in to.iter().zip(from) {
-        longest.push(to + from == depth + 1)?;
-    }
-    Ok(longest)
 }

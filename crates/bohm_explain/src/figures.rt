@@ -1,4 +1,4 @@
-//! The figures of a batch, and of a whole log.
+//! The figures of a part, and of a whole log.
 
 ghost use Rattle.std.specs.Prelude.{◌≡◌, ℕ, ◌+◌, ◌≤◌, ◌^◌, All, length, sum, count_by, IfOk};
 ghost use Rattle.bohm_txn.specs.Sure.{is_sure};
@@ -12,13 +12,14 @@ ghost use Rattle.bohm_explain.specs.Heaviest.{greatest_weight, most_arrows};
 
 use crate::arrow::Arrow;
 use crate::chains::heaviest_to;
+use crate::parts::Part;
 use crate::weights::{declared, weights};
 use bohm_log::LogPart;
 use bohm_txn::sure;
 use bohm_types::NoMemory;
 use std::alloc::Global;
 
-/// The counts of one batch.
+/// The counts of one part.
 #[derive(Clone, Copy, Debug, PartialEq, Eq)]
 pub struct Figures {
     /// Its transactions.
@@ -27,7 +28,7 @@ pub struct Figures {
     pub keys: u32,
     /// The sure transactions among them.
     pub sure: u32,
-    /// The accesses that want a version of the batch.
+    /// The accesses that want a version of the part.
     pub taken: u32,
     /// The transactions on the longest chain of wanted versions.
     pub depth: u32,
@@ -37,7 +38,7 @@ pub struct Figures {
     pub heaviest: u32,
 }
 
-/// The counts of a whole log: the sums over its batches, since batches run one after another.
+/// The counts of a whole log: the sums over its parts, since parts run one after another.
 #[derive(Clone, Copy, Debug, PartialEq, Eq)]
 pub struct Totals {
     pub transactions: u64,
@@ -49,7 +50,7 @@ pub struct Totals {
     pub heaviest: u64,
 }
 
-/// The totals of a batch alone.
+/// The totals of a part alone.
 impl From<Figures> for Totals {
     ghost from_gives = { λ f t. t ≡ alone f };
 
@@ -67,7 +68,7 @@ impl From<Figures> for Totals {
 }
 
 impl Totals {
-    /// The totals with one more batch.
+    /// The totals with one more part.
     fn plus(self, figures: Figures) -> Totals
         requires { AreAtMost (2 ^ 63) self }
         ensures sum { result ≡ plus self figures }
@@ -85,10 +86,10 @@ impl Totals {
         }
     }
 
-    /// The totals of some batches.
-    pub fn of(figures: &[Figures]) -> Totals
-        requires { length figures.now ≤ most_txns }
-        ensures { result ≡ totals_of figures.now }
+    /// The totals of some parts.
+    pub fn of(parts: &[Part]) -> Totals
+        requires { length parts.now ≤ most_txns }
+        ensures { result ≡ totals_of parts.now }
     {
         let mut totals = Totals {
             transactions: 0,
@@ -99,8 +100,8 @@ impl Totals {
             terms: 0,
             heaviest: 0,
         };
-        for batch in figures {
-            totals = totals.plus(*batch);
+        for part in parts {
+            totals = totals.plus(part.figures);
         }
         totals
     }
@@ -144,7 +145,7 @@ fn count_sure(txns: &LogPart<'_>) -> u32
     count
 }
 
-/// The figures of a batch with these wanted versions and depths.
+/// The figures of a part with these wanted versions and depths.
 pub fn counted(
     alloc: Global,
     txns: &LogPart<'_>,

@@ -1,4 +1,4 @@
-//! The keys of a log, gathered batch by batch.
+//! The keys of a log, gathered part by part.
 
 ghost use Rattle.std.specs.Prelude.{◌≡◌, List, [], ◌∷◌, ◌++◌, length, IfOk, OnOk};
 ghost use Rattle.std.specs.List.{zip};
@@ -16,14 +16,14 @@ use bohm_types::{Key, NoMemory};
 use indexmap::IndexMap;
 use std::alloc::Global;
 
-/// The keys of a log's first batches, each with its counts.
+/// The keys of a log's first parts, each with its counts.
 #[derive(Drop)]
 pub struct Gathering {
     tallies: IndexMap<Key, Tally, HashSeed>,
 }
 
 impl Gathering {
-    /// For no batch yet. Keys are hashed with this seed. It allocates nothing.
+    /// For no part yet. Keys are hashed with this seed. It allocates nothing.
     pub fn new(alloc: Global, seed: HashSeed) -> Gathering
         ensures { IsGathered [] [] result }
     {
@@ -32,7 +32,7 @@ impl Gathering {
         }
     }
 
-    /// Adds a batch: its transactions, its arrows, and for each arrow the number of transactions on
+    /// Adds a part: its transactions, its arrows, and for each arrow the number of transactions on
     /// the longest chain through it. The time grows with the number of declared keys and arrows.
     pub fn note(
         &mut self,

@@ -10,7 +10,7 @@ pub struct Heat {
     pub writers: u32,
     /// The transactions of the log that declare to read the key.
     pub readers: u32,
-    /// The transactions on the longest chain in a batch through an arrow for the key, or 0 if no
+    /// The transactions on the longest chain in a part through an arrow for the key, or 0 if no
     /// transaction wants it.
     pub chain: u32,
 }

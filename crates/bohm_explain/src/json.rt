@@ -1,8 +1,8 @@
 //! Figures in JSON.
 
 ghost use Rattle.std.specs.Prelude.{◌≡◌, ◌≤◌, ◌++◌, [], length, take, IfOk};
-ghost use Rattle.bohm_explain.specs.Json.{batches_json, field, figures_from};
-ghost use Rattle.bohm_explain.specs.Json.{figures_item, figures_json, heat_item};
+ghost use Rattle.bohm_explain.specs.Json.{field, figures_json, heat_item, part_item};
+ghost use Rattle.bohm_explain.specs.Json.{parts_from, parts_json, planning_json};
 ghost use Rattle.bohm_explain.specs.Json.{heat_json, heats_from, hottest_json};
 ghost use Rattle.bohm_explain.specs.Json.{chain_json, hundredths_field, json_text};
 ghost use Rattle.bohm_explain.specs.Json.{limits_json, place_item, places_from, separator};
@@ -10,10 +10,13 @@ ghost use Rattle.bohm_explain.specs.Table.{hundredths};
 ghost use Rattle.bohm_types.specs.Limits.{most_txns};
 
 use crate::decimal::put_decimal;
-use crate::figures::{Figures, Totals};
+use crate::figures::Totals;
 use crate::heat::Heat;
-use crate::table::{put_hundredths, put_quotient};
+use crate::parts::Part;
+use crate::request::Request;
+use crate::table::{put_hundredths, put_quotient, word_for};
 use crate::verdict::{execution_limit, run_limit};
+use bohm_settings::Settings;
 use bohm_types::NoMemory;
 use itoa::Integer;
 
@@ -44,7 +47,7 @@ fn put_width(out: &mut Vec<u8>, name: &[u8], number: u64, divisor: u64) -> Resul
     put_quotient(out, 0, number, divisor)
 }
 
-/// Appends the figures of a batch or of the log.
+/// Appends the figures of a part or of the log.
 fn put_figures(out: &mut Vec<u8>, totals: Totals) -> Result<(), NoMemory>
     ensures { IfOk result (λ _. out.new.items ≡ out.old.items ++ figures_json totals) }
 {
@@ -88,12 +91,19 @@ fn put_separator(out: &mut Vec<u8>, before: usize) -> Result<(), NoMemory>
     Ok(())
 }
 
-/// Appends an item with figures, after this many others.
-fn put_figures_item(out: &mut Vec<u8>, before: usize, totals: Totals) -> Result<(), NoMemory>
-    ensures { IfOk result (λ _. out.new.items ≡ out.old.items ++ figures_item before totals) }
+/// Appends a part, after this many others.
+fn put_part_item(out: &mut Vec<u8>, before: usize, part: &Part) -> Result<(), NoMemory>
+    ensures { IfOk result (λ _. out.new.items ≡ out.old.items ++ part_item before part.now) }
 {
     put_separator(out, before)?;
-    put_figures(out, totals)
+    out.extend_from_slice(b"{\"from\":")?;
+    put_decimal(out, part.first)?;
+    out.extend_from_slice(b",\"run\":\"")?;
+    out.extend_from_slice(word_for(part.sharing))?;
+    out.extend_from_slice(b"\",\"figures\":")?;
+    put_figures(out, Totals::from(part.figures))?;
+    out.extend_from_slice(b"}")?;
+    Ok(())
 }
 
 /// Appends an item with a key, after this many others.
@@ -104,26 +114,25 @@ fn put_heat_item(out: &mut Vec<u8>, before: usize, heat: &Heat) -> Result<(), No
     put_heat(out, heat)
 }
 
-/// Appends the figures of each batch, as the items of a list.
-fn put_items(out: &mut Vec<u8>, figures: &[Figures]) -> Result<(), NoMemory>
-    ensures { IfOk result (λ _. out.new.items ≡ out.old.items ++ figures_from 0 figures.now) }
+/// Appends each part, as the items of a list.
+fn put_items(out: &mut Vec<u8>, parts: &[Part]) -> Result<(), NoMemory>
+    ensures { IfOk result (λ _. out.new.items ≡ out.old.items ++ parts_from 0 parts.now) }
 {
-    for (index, batch) in figures.iter().enumerate() {
-        put_figures_item(out, index, Totals::from(*batch))?;
+    for (index, part) in parts.iter().enumerate() {
+        put_part_item(out, index, part)?;
     }
     Ok(())
 }
 
-/// Appends the figures of each batch as a named list, unless a summary is requested.
-fn put_batches(out: &mut Vec<u8>, summary: bool, figures: &[Figures]) -> Result<(), NoMemory>
-    ensures { IfOk result (λ _. out.new.items
-        ≡ out.old.items ++ batches_json summary figures.now) }
+/// Appends each part as a named list, unless a summary is requested.
+fn put_parts(out: &mut Vec<u8>, summary: bool, parts: &[Part]) -> Result<(), NoMemory>
+    ensures { IfOk result (λ _. out.new.items ≡ out.old.items ++ parts_json summary parts.now) }
 {
     if summary {
         return Ok(());
     }
-    out.extend_from_slice(b"\"batches\":[")?;
-    put_items(out, figures)?;
+    out.extend_from_slice(b"\"parts\":[")?;
+    put_items(out, parts)?;
     out.extend_from_slice(b"],\n")?;
     Ok(())
 }
@@ -197,28 +206,39 @@ fn put_limits(out: &mut Vec<u8>, totals: Totals) -> Result<(), NoMemory>
     put_hundredths(out, 0, run_limit(totals))
 }
 
-/// Appends the figures of each batch, unless a summary is requested, and of the log; the first
-/// `top` keys; the longest chain; and the most that workers can gain.
+/// Appends how a shared part is planned: in how many partitions of the keys, by how many workers.
+fn put_planning(out: &mut Vec<u8>, settings: Settings) -> Result<(), NoMemory>
+    ensures { IfOk result (λ _. out.new.items ≡ out.old.items ++ planning_json settings) }
+{
+    let (partitions, workers) = (settings.parts(), settings.cc().count());
+    out.extend_from_slice(b",\n\"partitions\":")?;
+    put_decimal(out, partitions)?;
+    out.extend_from_slice(b",\"planning_workers\":")?;
+    put_decimal(out, workers.min(partitions))
+}
+
+/// Appends the parts, unless a summary is requested, and the log's figures; the first keys; the
+/// longest chain; the most that workers can gain; and how shared parts are planned.
 pub fn put_json(
     out: &mut Vec<u8>,
-    summary: bool,
-    top: u32,
-    figures: &[Figures],
+    request: Request,
+    parts: &[Part],
     ranked: &[Heat],
     longest: &[u32],
 ) -> Result<(), NoMemory>
-    requires { length figures.now ≤ most_txns }
+    requires { length parts.now ≤ most_txns }
     ensures { IfOk result (λ _. out.new.items
-        ≡ out.old.items ++ json_text summary top figures.now ranked.now longest.now) }
+        ≡ out.old.items ++ json_text request parts.now ranked.now longest.now) }
 {
-    let totals = Totals::of(figures);
+    let totals = Totals::of(parts);
     out.extend_from_slice(b"{")?;
-    put_batches(out, summary, figures)?;
+    put_parts(out, request.layout().summary, parts)?;
     out.extend_from_slice(b"\"all\":")?;
     put_figures(out, totals)?;
-    put_hottest(out, top, ranked)?;
+    put_hottest(out, request.top(), ranked)?;
     put_chain(out, longest)?;
     put_limits(out, totals)?;
+    put_planning(out, request.settings())?;
     out.extend_from_slice(b"}\n")?;
     Ok(())
 }

@@ -1,25 +1,24 @@
 //! Laws over the definitions alone. No call uses them.
 
-ghost use Rattle.std.specs.Prelude.{◌≡◌, ◌+◌, ◌<◌, ◌≤◌, ◌↔◌, ℕ, List, Contains, IsSomeAnd};
-ghost use Rattle.std.specs.Prelude.{length, map, slice_index, slice_index_or, take, true, false};
+ghost use Rattle.std.specs.Prelude.{◌≡◌, ◌+◌, ◌<◌, ◌≤◌, ◌↔◌, ℕ, List, All, Contains, length, map};
+ghost use Rattle.std.specs.Prelude.{slice_index};
+ghost use Rattle.std.specs.List.{sum};
 ghost use Rattle.bohm_types.specs.Txn.{Txn};
 ghost use Rattle.bohm_explain.specs.declared.arrow.Arrow.{Arrow};
 ghost use Rattle.bohm_explain.specs.declared.heat.Heat.{Heat};
-ghost use Rattle.std.specs.Int.{div_ceil};
-ghost use Rattle.std.specs.List.{sum};
-ghost use Rattle.bohm_explain.specs.declared.bands.TheConstants.{MOST_NODES};
 ghost use Rattle.bohm_place.specs.Chains.{greatest};
+ghost use Rattle.bohm_place.specs.Cuttings.{Cutting};
 ghost use Rattle.bohm_place.specs.Plans.{IsRightPlan};
+ghost use Rattle.bohm_read_ahead.specs.declared.checked_chunk.Sharing.{Sharing};
 ghost use Rattle.bohm_board.specs.declared.batch.Batch.{Batch};
 ghost use Rattle.bohm_board.specs.Batches.{IsIn, Wants, plan_of, position, txns_of};
-ghost use Rattle.bohm_place.specs.Cuttings.{Cutting, IsEven, txns_at};
-ghost use Rattle.bohm_explain.specs.Chains.{EndsAt, IsChainOf, IsGreatest, IsOn};
+ghost use Rattle.bohm_explain.specs.Chains.{EndsAt, IsChainOf, IsGreatest};
 ghost use Rattle.bohm_explain.specs.Chains.{IsWantedBy, LeadsOn, weight_of};
-ghost use Rattle.bohm_explain.specs.Figures.{batch_at, batch_count, depths, figures_in};
+ghost use Rattle.bohm_explain.specs.Figures.{depths};
 ghost use Rattle.bohm_explain.specs.Heaviest.{AreRising, greatest_wanted, greatest_wanting};
 ghost use Rattle.bohm_explain.specs.Heaviest.{heaviest_from, heaviest_to};
-ghost use Rattle.bohm_explain.specs.Picture.{band_width, leading, most_nodes};
-ghost use Rattle.bohm_explain.specs.Printed.{IsLongestChain, heights, longest};
+ghost use Rattle.bohm_explain.specs.Parts.{parts_in};
+ghost use Rattle.bohm_explain.specs.Printed.{IsLongestChain, heights};
 ghost use Rattle.bohm_explain.specs.Ranking.{IsRanking};
 ghost use Rattle.bohm_explain.specs.Wanted.{arrows};
 ghost use Rattle.bohm_explain.specs.Weighing.{weights};
@@ -52,12 +51,11 @@ pub fn chain_from_each()
         ≡ slice_index weights p + greatest_wanting (slice_index (heaviest_from weights wanted)) wanted p }
 {}
 
-/// What the figures say about a batch's chains. A chain is a list of its transactions, each of
+/// What the figures say about a part's chains. A chain is a list of its transactions, each of
 /// which but the first wants a version of the one before. A depth is the length of a longest chain,
 /// of all or of those that end at a transaction; an arrow's chain is a longest one through the
-/// arrow; the heaviest weight is that of a heaviest chain; and a transaction is marked exactly if
-/// it is on a longest chain.
-pub fn chains_of_a_batch()
+/// arrow; and the heaviest weight is that of a heaviest chain.
+pub fn chains_of_a_part()
     ensures depth { (txns : List Txn) → 0 < length txns
         → IsGreatest length (IsChainOf txns) (greatest (depths txns)) }
     ensures depth_at { (txns : List Txn) (p : ℕ) → p < length txns
@@ -68,28 +66,13 @@ pub fn chains_of_a_batch()
     ensures heaviest { (txns : List Txn) → 0 < length txns
         → IsGreatest (weight_of (weights txns)) (IsChainOf txns)
         (greatest (heaviest_to (weights txns) (arrows txns))) }
-    ensures longest { (txns : List Txn) (p : ℕ) → p < length txns
-        → (slice_index_or (longest txns) p false ≡ true) ↔ IsOn txns p (greatest (depths txns)) }
 {}
 
-/// The length of the listed chain of a log is the depth of the deepest batch.
+/// The length of the listed chain of a log is the depth of the deepest part.
 pub fn longest_is_deepest()
-    ensures { (size : ℕ) (log : List Txn) (places : List ℕ) → 1 ≤ size
-        → IsLongestChain size log places
-        → length places ≡ greatest (map (λ f. f.depth) (figures_in size log)) }
-{}
-
-/// For any batch, a picture by depth has at most 200 bands, and at most 200 transactions of a
-/// chain.
-pub fn few_are_drawn()
-    ensures bands { (deepest : ℕ) → 1 ≤ deepest → div_ceil deepest (band_width deepest) ≤ most_nodes }
-    ensures chain { (chain : List ℕ) → length (take MOST_NODES chain) ≤ most_nodes }
-{}
-
-/// Each step of a chain that is drawn beside bands has its arrow.
-pub fn steps_are_drawn()
-    ensures { (wanted : List Arrow) (p q : ℕ) → IsWantedBy wanted p q
-        → IsSomeAnd (leading wanted p q) (λ a. (a.from ≡ p) × (a.to ≡ q)) }
+    ensures { (c : Cutting) (ways : List Sharing) (places : List ℕ) → All (λ n. 1 ≤ n) c.sizes
+        → sum c.sizes ≡ length c.log → IsLongestChain c places
+        → length places ≡ greatest (map (λ p. p.figures.depth) (parts_in c ways)) }
 {}
 
 /// There is an arrow from one transaction to another exactly if, on the board of a run, the second
@@ -97,14 +80,6 @@ pub fn steps_are_drawn()
 pub fn arrows_are_wanted()
     ensures { (b : Batch) (t u : ℕ) → IsRightPlan (txns_of b) (plan_of b) → IsIn b t → IsIn b u
         → Wants b t u ↔ IsWantedBy (arrows (txns_of b)) (position b u) (position b t) }
-{}
-
-/// The batches that are explained are those of a run with batches of this size.
-pub fn batches_are_those_of_a_run()
-    ensures count { (c : Cutting) (size : ℕ) → IsEven size c.sizes → sum c.sizes ≡ length c.log
-        → 0 < size → batch_count size c.log ≡ length c.sizes }
-    ensures each { (c : Cutting) (size i : ℕ) → IsEven size c.sizes → sum c.sizes ≡ length c.log
-        → i < length c.sizes → batch_at size c.log i ≡ txns_at c i }
 {}
 
 /// Heats have only one ranking, in whatever order they are given.

@@ -1,16 +1,13 @@
-//! Why a log scales or doesn't: explains the plan of each batch. Which transaction wants which
-//! version, the chains that this makes, and the keys that cause them.
+//! Why a log scales or doesn't: explains the parts that a run makes of it. Whether several workers
+//! share a part, which of its transactions wants which version, the chains that this makes, and the
+//! keys that cause them. And why transactions abort.
 #![tactic(auto)]
 
-mod answering;
+mod aborts;
 mod arrow;
-mod bands;
-mod batches;
-mod beside;
 mod chain_text;
 mod chains;
 mod decimal;
-mod drawing;
 mod explanation;
 mod figures;
 mod gathering;
@@ -20,18 +17,20 @@ mod json;
 pub mod laws;
 mod layout;
 mod longest;
-mod nodes;
-mod picture;
-mod pieces;
+mod parts;
 mod ranking;
 mod request;
+mod svg;
 mod table;
 mod tallies;
 mod verdict;
 mod waits;
 mod walking;
 mod weights;
+mod windows;
 
-pub use answering::answer;
+pub use aborts::print_aborts;
+pub use explanation::answer;
 pub use layout::Layout;
-pub use request::{LARGEST_BATCH, LAST_BATCH, MOST_LISTED, Request};
+pub use request::{LAST_PART, LISTED, MOST_LISTED, Request};
+pub use windows::window_counts;

@@ -13,7 +13,7 @@ use bohm_log::LogPart;
 use bohm_types::NoMemory;
 use std::alloc::Global;
 
-/// The places in the log of these positions of a batch whose first transaction is at `first`.
+/// The places in the log of these positions of a part whose first transaction is at `first`.
 fn placed(alloc: Global, first: u32, positions: &[u32]) -> Result<Vec<u32>, NoMemory>
     requires first { first ≤ most_txns }
     requires inside { All (λ p. p < largest_batch) positions.now }
@@ -26,7 +26,7 @@ fn placed(alloc: Global, first: u32, positions: &[u32]) -> Result<Vec<u32>, NoMe
     Ok(places)
 }
 
-/// A longest chain of a batch, as places in the log, where the batch's first transaction is at
+/// A longest chain of a part, as places in the log, where the part's first transaction is at
 /// place `first`.
 fn longest_chain(
     alloc: Global,
@@ -50,7 +50,7 @@ fn longest_chain(
     placed(alloc, first, chain.as_slice())
 }
 
-/// Replaces `longest` by a longest chain of a batch if that is longer.
+/// Replaces `longest` by a longest chain of a part if that is longer.
 pub fn keep_longer(
     alloc: Global,
     txns: &LogPart<'_>,

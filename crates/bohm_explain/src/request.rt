@@ -1,29 +1,31 @@
 //! The options of an explanation.
 
-ghost use Rattle.std.specs.Prelude.{◌≡◌, ◌≤◌, IfSome};
+ghost use Rattle.std.specs.Prelude.{◌≡◌, ◌≤◌, None, IfSome};
 ghost use Rattle.std.specs.Option.{SomeIff};
-ghost use Rattle.bohm_explain.specs.Asked.{AreInRange, Asked, IsBetween, defaults, most_listed};
-ghost use Rattle.bohm_types.specs.Limits.{largest_batch, most_txns};
+ghost use Rattle.bohm_explain.specs.Asked.{AreInRange, Asked, most_listed, numbers};
+ghost use Rattle.bohm_settings.specs.Given.{IsBetween};
+ghost use Rattle.bohm_types.specs.Limits.{most_txns};
 
 use crate::layout::Layout;
+use bohm_settings::Settings;
 use std::marker::Model;
-
-/// The most transactions of a batch.
-pub const LARGEST_BATCH: u32 = bohm_types::LARGEST_BATCH;
 
 /// The most keys that are listed.
 pub const MOST_LISTED: u32 = 1000;
 
-/// The greatest number that a batch can have: a log has at most this many transactions, and a batch
-/// has at least one.
-pub const LAST_BATCH: u32 = bohm_types::MOST_TXNS as u32;
+/// The keys that are listed unless another number is requested.
+pub const LISTED: u32 = 10;
 
-/// The transactions of a batch, how many keys are listed, the hottest first, and the number, from 1
-/// on, of the batch whose picture is printed instead of the figures (`None`: the figures, in this
-/// layout).
+/// The greatest number that a part can have: a log has at most this many transactions, and a part
+/// has at least one.
+pub const LAST_PART: u32 = bohm_types::MOST_TXNS as u32;
+
+/// The settings of the run whose parts are explained, how many keys are listed, the hottest first,
+/// and the number, from 1 on, of the part whose conflicts are drawn in a picture of all parts
+/// (`None`: the figures, in this layout).
 #[derive(Clone, Copy, Debug, PartialEq, Eq)]
 pub struct Request {
-    batch: u32,
+    settings: Settings,
     top: u32,
     picture: Option<u32>,
     layout: Layout,
@@ -35,17 +37,17 @@ impl Model for Request {
     ghost Value = { Asked };
 
     ghost view = { λ r. record {
-      batch = r.batch;
+      given = r.settings;
       top = r.top;
       picture = r.picture;
       layout = r.layout;
     } };
 
     ghost invariant = { λ r. AreInRange
-        (record { batch = r.batch; top = r.top; picture = r.picture; layout = r.layout }) };
+        (record { given = r.settings; top = r.top; picture = r.picture; layout = r.layout }) };
 
     ghost inverse = { λ a. record {
-      batch = a.batch;
+      settings = a.given;
       top = a.top;
       picture = a.picture;
       layout = a.layout;
@@ -53,32 +55,42 @@ impl Model for Request {
 }
 
 impl Request {
-    /// This request, if each number lies in its range.
-    pub fn new(batch: u32, top: u32, picture: Option<u32>, layout: Layout) -> Option<Request>
-        ensures { let asked : Asked =
-            record { batch = batch; top = top; picture = picture; layout = layout }
-            in SomeIff result (AreInRange asked) asked }
+    /// This request, if each number lies in its range. The first four are those of the settings.
+    pub fn new(
+        cc: u32,
+        exec: u32,
+        parts: u32,
+        batch: u32,
+        top: u32,
+        picture: Option<u32>,
+        layout: Layout,
+    ) -> Option<Request>
+        ensures { let asked : Asked = record {
+          given = numbers cc exec parts batch;
+          top = top;
+          picture = picture;
+          layout = layout;
+        } in SomeIff result (AreInRange asked) asked }
     {
-        let in_range = (1..=LARGEST_BATCH).contains(&batch)
-            && top <= MOST_LISTED
-            && picture.is_none_or(|number| (1..=LAST_BATCH).contains(&number));
+        let settings = Settings::new(cc, exec, parts, batch, 0, None)?;
+        let in_range = top <= MOST_LISTED
+            && picture.is_none_or(|number| (1..=LAST_PART).contains(&number));
         if !in_range {
             return None;
         }
         Some(Request {
-            batch,
+            settings,
             top,
             picture,
             layout,
         })
     }
 
-    /// The number of transactions in a batch.
-    pub fn batch(&self) -> u32
-        ensures value { result ≡ self.now.batch }
-        ensures in_range { IsBetween 1 largest_batch result }
+    /// The settings of the run.
+    pub fn settings(&self) -> Settings
+        ensures { result ≡ self.now.given }
     {
-        self.batch
+        self.settings
     }
 
     /// How many keys are listed, the hottest first.
@@ -89,7 +101,7 @@ impl Request {
         self.top
     }
 
-    /// The number of the batch whose picture is printed, from 1 on; `None` means the figures.
+    /// The number of the part whose conflicts are drawn, from 1 on; `None` means the figures.
     pub fn picture(&self) -> Option<u32>
         ensures value { result ≡ self.now.picture }
         ensures in_range { IfSome result (IsBetween 1 most_txns) }
@@ -102,22 +114,5 @@ impl Request {
         ensures { result ≡ self.now.layout }
     {
         self.layout
-    }
-}
-
-/// The largest batches, the ten hottest keys, and the table of all batches.
-impl Default for Request {
-    ghost is_default = { λ request. request ≡ defaults };
-
-    fn default() -> Request {
-        Request {
-            batch: LARGEST_BATCH,
-            top: 10,
-            picture: None,
-            layout: Layout {
-                summary: false,
-                json: false,
-            },
-        }
     }
 }

@@ -1,16 +1,18 @@
 //! The table, as text.
 
 ghost use Rattle.std.specs.Prelude.{◌≡◌, ◌-◌, ◌≤◌, ◌++◌, length, replicate, IfOk};
-ghost use Rattle.bohm_explain.specs.Table.{batch_rows, cell, hundredths, hundredths_cell};
-ghost use Rattle.bohm_explain.specs.Table.{row_line, rows_from, table_text};
+ghost use Rattle.bohm_explain.specs.Table.{cell, counts_text, hundredths, hundredths_cell, log_line};
+ghost use Rattle.bohm_explain.specs.Table.{part_line, part_rows, rows_from, table_text, word_for};
 ghost use Rattle.bohm_types.specs.Limits.{most_txns};
 
-use crate::figures::{Figures, Totals};
+use crate::figures::Totals;
+use crate::parts::Part;
+use bohm_read_ahead::Sharing;
 use bohm_types::NoMemory;
 use itoa::{Buffer, Integer};
 
 const HEAD: &[u8] =
-    b"  batch  transactions      keys      sure     taken    depth     width       terms   heaviest     width\n";
+    b"   part      from     run  transactions      keys      sure     taken    depth     width       terms   heaviest     width\n";
 
 /// Appends the blanks that fill a column after a text of `written` bytes.
 pub fn put_blanks(out: &mut Vec<u8>, width: usize, written: usize) -> Result<(), NoMemory>
@@ -75,11 +77,22 @@ pub fn put_quotient(
     put_hundredths(out, width, hundredths(number, divisor))
 }
 
-/// Appends the line of a batch or of the log.
-fn put_row(out: &mut Vec<u8>, name: &[u8], totals: Totals) -> Result<(), NoMemory>
-    ensures { IfOk result (λ _. out.new.items ≡ out.old.items ++ row_line name.now totals) }
+/// How a part runs, in a word.
+pub fn word_for(sharing: Sharing) -> &'static [u8]
+    ensures { result.now ≡ word_for sharing }
 {
-    put_cell(out, 7, name)?;
+    match sharing {
+        Sharing::OneWorker => b"one",
+        Sharing::NoTransactions => b"empty",
+        Sharing::ShortBodies => b"short",
+        Sharing::Shared => b"shared",
+    }
+}
+
+/// Appends the counts of a part or of the log, and ends the line.
+fn put_counts(out: &mut Vec<u8>, totals: Totals) -> Result<(), NoMemory>
+    ensures { IfOk result (λ _. out.new.items ≡ out.old.items ++ counts_text totals) }
+{
     put_number(out, 14, totals.transactions)?;
     put_number(out, 10, totals.keys)?;
     put_number(out, 10, totals.sure)?;
@@ -93,39 +106,53 @@ fn put_row(out: &mut Vec<u8>, name: &[u8], totals: Totals) -> Result<(), NoMemor
     Ok(())
 }
 
-/// Appends a line for each batch, numbered from 1.
-fn put_rows(out: &mut Vec<u8>, figures: &[Figures]) -> Result<(), NoMemory>
-    requires { length figures.now ≤ most_txns }
-    ensures { IfOk result (λ _. out.new.items ≡ out.old.items ++ rows_from 1 figures.now) }
+/// Appends the line of the part with a number.
+fn put_part(out: &mut Vec<u8>, number: u64, part: &Part) -> Result<(), NoMemory>
+    ensures { IfOk result (λ _. out.new.items ≡ out.old.items ++ part_line number part.now) }
 {
-    for (index, batch) in figures.iter().enumerate() {
-        let number = index as u64 + 1;
-        put_row(
-            out,
-            Buffer::new().format(number).as_bytes(),
-            Totals::from(*batch),
-        )?;
+    put_number(out, 7, number)?;
+    put_number(out, 10, part.first)?;
+    put_cell(out, 8, word_for(part.sharing))?;
+    put_counts(out, Totals::from(part.figures))
+}
+
+/// Appends a line for each part, numbered from 1.
+fn put_rows(out: &mut Vec<u8>, parts: &[Part]) -> Result<(), NoMemory>
+    requires { length parts.now ≤ most_txns }
+    ensures { IfOk result (λ _. out.new.items ≡ out.old.items ++ rows_from 1 parts.now) }
+{
+    for (index, part) in parts.iter().enumerate() {
+        put_part(out, index as u64 + 1, part)?;
     }
     Ok(())
 }
 
-/// Appends a line for each batch, unless a summary is requested.
-fn put_batches(out: &mut Vec<u8>, summary: bool, figures: &[Figures]) -> Result<(), NoMemory>
-    requires { length figures.now ≤ most_txns }
-    ensures { IfOk result (λ _. out.new.items ≡ out.old.items ++ batch_rows summary figures.now) }
+/// Appends a line for each part, unless a summary is requested.
+fn put_parts(out: &mut Vec<u8>, summary: bool, parts: &[Part]) -> Result<(), NoMemory>
+    requires { length parts.now ≤ most_txns }
+    ensures { IfOk result (λ _. out.new.items ≡ out.old.items ++ part_rows summary parts.now) }
 {
     if summary {
         return Ok(());
     }
-    put_rows(out, figures)
+    put_rows(out, parts)
 }
 
-/// Appends a head, a line for each batch unless a summary is requested, and a line for the log.
-pub fn put_table(out: &mut Vec<u8>, summary: bool, figures: &[Figures]) -> Result<(), NoMemory>
-    requires { length figures.now ≤ most_txns }
-    ensures { IfOk result (λ _. out.new.items ≡ out.old.items ++ table_text summary figures.now) }
+/// Appends the line of the whole log.
+fn put_log(out: &mut Vec<u8>, totals: Totals) -> Result<(), NoMemory>
+    ensures { IfOk result (λ _. out.new.items ≡ out.old.items ++ log_line totals) }
+{
+    put_cell(out, 7, b"all")?;
+    put_blanks(out, 18, 0)?;
+    put_counts(out, totals)
+}
+
+/// Appends a head, a line for each part unless a summary is requested, and a line for the log.
+pub fn put_table(out: &mut Vec<u8>, summary: bool, parts: &[Part]) -> Result<(), NoMemory>
+    requires { length parts.now ≤ most_txns }
+    ensures { IfOk result (λ _. out.new.items ≡ out.old.items ++ table_text summary parts.now) }
 {
     out.extend_from_slice(HEAD)?;
-    put_batches(out, summary, figures)?;
-    put_row(out, b"all", Totals::of(figures))
+    put_parts(out, summary, parts)?;
+    put_log(out, Totals::of(parts))
 }

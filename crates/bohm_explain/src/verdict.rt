@@ -100,7 +100,7 @@ fn put_key_words(out: &mut Vec<u8>, totals: Totals, heat: &Heat) -> Result<(), N
 fn put_free_words(out: &mut Vec<u8>, totals: Totals) -> Result<(), NoMemory>
     ensures { IfOk result (λ _. out.new.items ≡ out.old.items ++ free_words totals) }
 {
-    out.extend_from_slice(b"no transaction waits for another of its batch: ")?;
+    out.extend_from_slice(b"no transaction waits for another of its part: ")?;
     put_limit(out, totals)
 }
 

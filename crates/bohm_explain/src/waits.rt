@@ -1,4 +1,4 @@
-//! The arrows and chains of a batch.
+//! The arrows and chains of a part.
 
 ghost use Rattle.std.specs.Prelude.{◌≤◌, length, IfOk};
 ghost use Rattle.bohm_place.specs.Plans.{IsPlannable, IsRightPlan};
@@ -13,7 +13,7 @@ use bohm_place::Plan;
 use bohm_types::NoMemory;
 use std::alloc::Global;
 
-/// The wanted versions of a batch, and the chains of them.
+/// The wanted versions of a part, and the chains of them.
 #[derive(Drop)]
 pub struct Waits {
     pub arrows: Vec<Arrow>,
@@ -23,7 +23,7 @@ pub struct Waits {
     pub heights: Vec<u32>,
 }
 
-/// The arrows and chains of the batch of this plan. The time grows with the number of declared
+/// The arrows and chains of the part of this plan. The time grows with the number of declared
 /// keys.
 pub fn waits_in(alloc: Global, plan: &Plan, txns: &LogPart<'_>) -> Result<Waits, NoMemory>
     requires few { length txns.now ≤ largest_batch }

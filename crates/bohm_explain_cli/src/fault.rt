@@ -8,16 +8,16 @@ use bohm_answer::RunFault;
 use bohm_command::NoAnswer;
 use bohm_types::NoMemory;
 
-/// The line on standard error if the log lacks the batch.
-const NO_BATCH: &str = "refused: no such batch\n";
+/// The line on standard error if the log lacks the part.
+const NO_PART: &str = "refused: no such part\n";
 
 /// Why a log isn't explained.
 #[derive(Clone, Copy, Debug, PartialEq, Eq)]
 pub enum ExplainFault {
     /// A run refuses the log with this fault, or the explanation couldn't be written.
     Run(RunFault),
-    /// The log lacks the batch whose picture was requested.
-    NoBatch,
+    /// The log lacks the part that was to be drawn.
+    NoPart,
 }
 
 impl From<RunFault> for ExplainFault {
@@ -44,6 +44,6 @@ pub fn no_answer(fault: ExplainFault) -> NoAnswer
 {
     match fault {
         ExplainFault::Run(fault) => NoAnswer::Run(fault),
-        ExplainFault::NoBatch => NoAnswer::Refused(NO_BATCH),
+        ExplainFault::NoPart => NoAnswer::Refused(NO_PART),
     }
 }

@@ -1,4 +1,5 @@
-//! The program: a log on standard input; on standard output, why it scales or doesn't.
+//! The program: a log in a file or on standard input; on standard output, why it scales or doesn't,
+//! or why its transactions abort.
 #![tactic(auto)]
 
 mod arguments;
@@ -6,29 +7,35 @@ mod explaining;
 mod fault;
 mod options;
 
-use arguments::read_arguments;
-use bohm_command::{ArgumentFault, NoAnswer, arguments_given, exit_code, tell, without_request};
-use bohm_explain::Request;
+use arguments::{Arguments, read_arguments};
+use bohm_command::{
+    ArgumentFault, NoAnswer, arguments_given, exit_code, opened, tell, without_request,
+};
 use explaining::explain_text;
 use fault::no_answer;
-use options::NAME;
+use options::EXPLAIN;
 use std::io::{self, Write};
 use std::process::ExitCode;
 
-/// The request that the program was started with.
-fn request_given(rt: &HostRuntime) -> Result<Request, ArgumentFault> {
-    let arguments = arguments_given(rt, NAME)?;
+/// What the program was asked for.
+fn asked(rt: &HostRuntime) -> Result<Arguments, ArgumentFault> {
+    let arguments = arguments_given(rt, EXPLAIN.name)?;
     read_arguments(rt.alloc(), arguments.as_slice())
 }
 
-/// Explains the log on standard input, as the arguments request.
+/// Explains the log of the file, or on standard input, as the arguments request.
 fn explain(rt: &HostRuntime, report: &mut Vec<u8>) -> Result<(), NoAnswer> {
-    let mut out = io::writer(rt);
-    match request_given(rt) {
-        Ok(request) => {
-            explain_text(rt, rt.alloc(), &mut rt.reader(), &mut out, request, report).map_err(
-                no_answer,
-            )
+    let (mut out, alloc) = (io::writer(rt), rt.alloc());
+    let Arguments { file, wish } = match asked(rt) {
+        Ok(taken) => taken,
+        Err(fault) => return without_request(&mut out, fault),
+    };
+    let Some(name) = file else {
+        return explain_text(rt, alloc, &mut rt.reader(), &mut out, wish, report).map_err(no_answer);
+    };
+    match opened(rt, name.as_str()) {
+        Ok(mut file) => {
+            explain_text(rt, alloc, &mut file, &mut out, wish, report).map_err(no_answer)
         }
         Err(fault) => without_request(&mut out, fault),
     }

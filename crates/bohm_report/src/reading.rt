@@ -56,9 +56,9 @@ pub fn check_reported<T: RandomSource>(
     }
 }
 
-/// Reads a log to the reader's end. It refuses what a run refuses, with the same fault. Messages
-/// for people about why a text isn't a valid log are added to the report, as long as allocations
-/// succeed.
+/// Reads a log to the reader's end, and returns its text too. It refuses what a run refuses, with
+/// the same fault. Messages for people about why a text isn't a valid log are added to the report,
+/// as long as allocations succeed.
 ///
 /// The time grows with the length of the text, and with the number k of its keys as k log k.
 pub fn read_reported<T: RandomSource, R: Read>(
@@ -66,8 +66,10 @@ pub fn read_reported<T: RandomSource, R: Read>(
     alloc: Global,
     reader: &mut R,
     report: &mut Vec<u8>,
-) -> Result<Checked, RunFault>
-    ensures ok { IfOk result (ReadsDocument (R.remaining reader.old) (R.remaining reader.new)) }
+) -> Result<(Vec<u8>, Checked), RunFault>
+    ensures ok { IfOk result
+        (λ r. ReadsDocument (R.remaining reader.old) (R.remaining reader.new) r.1) }
+    ensures text { IfOk result (λ r. r.0.items ≡ print_doc r.1) }
     ensures silent { OnOk result (report.new ≡ report.old) }
     ensures err { IfErr result
         (λ e. (given : Given)
@@ -75,5 +77,8 @@ pub fn read_reported<T: RandomSource, R: Read>(
     ensures before { IfErr result IsBeforeWriting }
 {
     let text = read_all(alloc, reader)?;
-    check_reported(rt, alloc, text.as_slice(), report)
+    match check_reported(rt, alloc, text.as_slice(), report) {
+        Ok(checked) => Ok((text, checked)),
+        Err(fault) => Err(fault),
+    }
 }

@@ -3,6 +3,7 @@ mod ByWords
 mod Stores
 mod Sound
 mod Exact
+mod Heads
 mod Settling
 mod Readings
 mod TidyLaws

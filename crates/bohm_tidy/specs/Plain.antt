@@ -1,5 +1,5 @@
 -- How loosely written lines become lines of an exact text.
-use Rattle.std.specs.Prelude.{ℕ, List, [], ◌∷◌, ◌++◌, Bool, true, false, if◌then◌else◌, codes, take, drop}
+use Rattle.std.specs.Prelude.{ℕ, List, [], ◌∷◌, ◌++◌, Bool, true, false, ◌||◌, if◌then◌else◌, codes, take, drop}
 use Rattle.std.specs.Str.{bytes_eq}
 use Rattle.bohm_text.specs.Cut.{split}
 use Rattle.bohm_tidy.specs.declared.plain.Place.{Place}
@@ -87,3 +87,23 @@ without_mark text = if bytes_eq (take 3 text) (239 ∷ 187 ∷ 191 ∷ []) then 
 -- the exact lines that a loose text is read as
 abbrev pub written : List ℕ → Written
 written text = fed_all nothing (split 10 (without_mark text))
+
+-- ---- procedures
+
+-- the line, or the other one if it is empty
+abbrev pub or_else : List ℕ → List ℕ → List ℕ
+or_else [] other = other
+or_else (b ∷ bs) other = b ∷ bs
+
+-- the exact line of the first line with words; empty if there is none
+unfoldable pub first_words : List (List ℕ) → List ℕ
+first_words [] = []
+first_words (line ∷ lines) = or_else (exact_line false line) (first_words lines)
+
+-- a procedure's head
+abbrev pub is_head : List ℕ → Bool
+is_head line = bytes_eq line (codes "procedure 1") || bytes_eq line (codes "procedure 2")
+
+-- a loose text is a procedure's if its first words are a procedure's head
+abbrev pub is_loose_procedure : List ℕ → Bool
+is_loose_procedure text = is_head (first_words (split 10 (without_mark text)))

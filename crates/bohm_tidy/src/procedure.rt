@@ -1,9 +1,12 @@
 //! The exact text of a loosely written procedure: its parameters, and then what a log of its one
 //! transaction is tidied into.
 
-ghost use Rattle.std.specs.Prelude.{IfOk};
+ghost use Rattle.std.specs.Prelude.{◌≡◌, IfOk, is_some};
+ghost use Rattle.bohm_text.specs.Cut.{split};
+ghost use Rattle.bohm_tidy.specs.Plain.{first_words, is_head, is_loose_procedure, without_mark};
 ghost use Rattle.bohm_tidy.specs.Tidied.{IsProcedureText};
 
+use crate::bytes::place_of;
 use crate::fault::TidyFault;
 use crate::line::put_line;
 use crate::plain::{NumberedLines, add_numbers, numbered_plain, without_mark};
@@ -50,7 +53,9 @@ fn is_parameter(line: &[u8]) -> bool {
 }
 
 /// The opening of the log for a procedure's head; nothing for other lines.
-fn opening_of(line: &[u8]) -> Option<&'static [u8]> {
+fn opening_of(line: &[u8]) -> Option<&'static [u8]>
+    ensures { is_some result ≡ is_head line.now }
+{
     if line == b"procedure 1".as_slice() {
         Some(OPENINGS[0])
     } else if line == b"procedure 2".as_slice() {
@@ -175,9 +180,32 @@ impl Parts {
     }
 }
 
-/// Whether a text's first words are a procedure's head.
-pub fn is_loose_procedure(alloc: Global, text: &[u8]) -> Result<bool, NoMemory> {
-    Ok(Parts::of(alloc, text)?.is_some())
+/// The exact line of a text's first line with words, or an empty line.
+fn first_words(alloc: Global, text: &[u8]) -> Result<Vec<u8>, NoMemory>
+    ensures { IfOk result
+        (λ exact. exact.items ≡ first_words (split 10 (without_mark text.now))) }
+{
+    let mut exact = Vec::new(alloc);
+    let mut room = Vec::new(alloc);
+    let mut rest = without_mark(text);
+    'lines: while let Some(at) = place_of(b'\n', rest) {
+        put_line(&mut exact, &mut room, false, &rest[..at])?;
+        if !exact.as_slice().is_empty() {
+            return Ok(exact);
+        }
+        rest = &rest[at + 1..];
+    }
+    put_line(&mut exact, &mut room, false, rest)?;
+    Ok(exact)
+}
+
+/// Whether a text's first words are a procedure's head. The time grows with the length of the text
+/// up to them.
+pub fn is_loose_procedure(alloc: Global, text: &[u8]) -> Result<bool, NoMemory>
+    ensures { IfOk result (λ is. is ≡ is_loose_procedure text.now) }
+{
+    let exact = first_words(alloc, text)?;
+    Ok(opening_of(exact.as_slice()).is_some())
 }
 
 /// The exact lines that a loose log or a loose procedure is read as, numbered. The time grows with the

@@ -1,9 +1,8 @@
 //! Tidies a log or a procedure, from bytes to bytes.
 
 ghost use Rattle.std.specs.Prelude.{◌≡◌, ◌≤◌, ℕ, [], false, true, length, IfOk, IfErr, OnOk, Err};
-ghost use Rattle.std.specs.Io.KnownBytes.{Appends};
 ghost use Rattle.bohm_answer.specs.Refusing.{IsBeforeWriting};
-ghost use Rattle.bohm_tidy_cli.specs.Tidying.{IsExactOf, StopsTidying, Tidies};
+ghost use Rattle.bohm_tidy_cli.specs.Tidying.{ChecksLoose, IsExactOf, StopsTidying, Tidies};
 
 use crate::arguments::Wishes;
 use crate::refusal::{check_exact, put_refusal, refusal_of};
@@ -94,7 +93,8 @@ pub fn tidy_text<T: RandomSource, R: Read, W: Write>(
         → Tidies (R.remaining reader.old) (R.remaining reader.new) (W.contents writer.old)
         (W.contents writer.new)) }
     ensures checked { OnOk result (wishes.check ≡ true
-        → Appends (W.contents writer.old) (W.contents writer.new) []) }
+        → ChecksLoose (R.remaining reader.old) (R.remaining reader.new) (W.contents writer.old)
+        (W.contents writer.new)) }
     ensures silent { OnOk result (report.new ≡ report.old) }
     ensures sent { (sent : ℕ) → result ≡ Err (RunFault.Write sent) → wishes.check ≡ false
         → wishes.keep_comments ≡ false

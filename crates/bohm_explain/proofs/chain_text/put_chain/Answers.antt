@@ -2,7 +2,7 @@ use Rattle.std.proofs.Common.{◌≡◌, ◌∙◌, ℕ, ◌-◌, ◌++◌, List
 use Rattle.std.proofs.lemmas.Bool.{lt-leb}
 use Rattle.std.proofs.lemmas.List.{take_min}
 use Rattle.bohm_explain.specs.ChainText.{more_text, spaced}
-use Rattle.bohm_explain.proofs.Parts.{three}
+use Rattle.bohm_explain.proofs.Pieces.{three}
 use Rattle.bohm_explain.proofs.Texts.{one_more}
 use Rattle.bohm_explain.proofs.chain_text.put_chain.Goals as goal
 

@@ -3,7 +3,7 @@ use Rattle.std.specs.List.{flat_map}
 use Rattle.std.proofs.lemmas.List.{take_all}
 use Rattle.bohm_explain.specs.declared.heat.Heat.{Heat}
 use Rattle.bohm_explain.specs.Hottest.{hottest_head, heat_line}
-use Rattle.bohm_explain.proofs.Parts.{three}
+use Rattle.bohm_explain.proofs.Pieces.{three}
 use Rattle.bohm_explain.proofs.HeatLines.{opened}
 use Rattle.bohm_explain.proofs.hottest.put_heats.Goals as goal
 

@@ -1,6 +1,6 @@
 use Rattle.std.proofs.Common.{codes}
 use Rattle.bohm_explain.specs.Json.{places_from}
-use Rattle.bohm_explain.proofs.Parts.{three}
+use Rattle.bohm_explain.proofs.Pieces.{three}
 use Rattle.bohm_explain.proofs.json.put_chain.Goals as goal
 
 pub returns : goal.returns

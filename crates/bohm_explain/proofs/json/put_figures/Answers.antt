@@ -1,7 +1,7 @@
 use Rattle.std.proofs.Common.{◌++◌, codes, decimal}
 use Rattle.bohm_explain.specs.Json.{hundredths_field, number_field}
 use Rattle.bohm_explain.specs.Table.{hundredths}
-use Rattle.bohm_explain.proofs.Parts.{ten}
+use Rattle.bohm_explain.proofs.Pieces.{ten}
 use Rattle.bohm_explain.proofs.Texts.{one_more}
 use Rattle.bohm_explain.proofs.json.put_figures.Goals as goal
 

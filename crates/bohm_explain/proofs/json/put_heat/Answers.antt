@@ -1,6 +1,6 @@
 use Rattle.std.proofs.Common.{◌∙◌, ◌++◌, ℕ, List, ap, codes}
 use Rattle.bohm_explain.specs.Json.{number_field}
-use Rattle.bohm_explain.proofs.Parts.{three}
+use Rattle.bohm_explain.proofs.Pieces.{three}
 use Rattle.bohm_explain.proofs.Texts.{one_more}
 use Rattle.bohm_explain.proofs.json.put_heat.Goals as goal
 

@@ -1,6 +1,6 @@
 use Rattle.std.proofs.Common.{codes, take}
 use Rattle.bohm_explain.specs.Json.{heats_from}
-use Rattle.bohm_explain.proofs.Parts.{three}
+use Rattle.bohm_explain.proofs.Pieces.{three}
 use Rattle.bohm_explain.proofs.json.put_hottest.Goals as goal
 
 pub returns : goal.returns

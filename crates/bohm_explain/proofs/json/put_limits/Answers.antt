@@ -2,7 +2,7 @@ use Rattle.std.proofs.Common.{◌∙◌, ◌++◌, ℕ, ap, codes}
 use Rattle.std.proofs.lemmas.Result.{IfOk-weaker}
 use Rattle.bohm_explain.specs.Table.{hundredths_cell}
 use Rattle.bohm_explain.specs.Verdict.{execution_limit, run_limit}
-use Rattle.bohm_explain.proofs.Parts.{three}
+use Rattle.bohm_explain.proofs.Pieces.{three}
 use Rattle.bohm_explain.proofs.Texts.{one_more}
 use Rattle.bohm_explain.proofs.json.put_limits.Goals as goal
 

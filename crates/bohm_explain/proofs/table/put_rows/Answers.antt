@@ -5,7 +5,7 @@ use Rattle.bohm_explain.proofs.table.put_rows.Goals as goal
 
 pub returns : goal.returns
 returns c =
-    let fs = c.args.figures.now in
-    let nil : rows_from (c.loop-index.index + 1) (drop c.loop-index.index fs) ≡ [] =
-    at_drop_all (rows_from (c.loop-index.index + 1)) fs c.loop-index.index c.loop-index-test.false in
+    let ps = c.args.parts.now in
+    let nil : rows_from (c.loop-index.index + 1) (drop c.loop-index.index ps) ≡ [] =
+    at_drop_all (rows_from (c.loop-index.index + 1)) ps c.loop-index.index c.loop-index-test.false in
     sym (append-nil c.loop-index.out.items) ∙ (ap (λ (w : List ℕ). c.loop-index.out.items ++ w) (sym nil) ∙ c.loop-index.invariant)

@@ -1,7 +1,7 @@
 use Rattle.std.proofs.Common.{◌∙◌, ℕ, List, ◌++◌, ap, codes, decimal}
 use Rattle.std.proofs.lemmas.Result.{IfOk-weaker}
 use Rattle.bohm_explain.specs.Verdict.{limit_words}
-use Rattle.bohm_explain.proofs.Parts.{ten}
+use Rattle.bohm_explain.proofs.Pieces.{ten}
 use Rattle.bohm_explain.proofs.verdict.put_key_words.Goals as goal
 
 pub returns : goal.returns

@@ -1,7 +1,7 @@
 use Rattle.std.proofs.Common.{◌≡◌, ◌∙◌, ◌++◌, ap, false, ℕ, codes, nat_le, arith}
 use Rattle.bohm_explain.specs.Table.{hundredths_cell}
 use Rattle.bohm_explain.specs.Verdict.{execution_limit, run_limit}
-use Rattle.bohm_explain.proofs.Parts.{three}
+use Rattle.bohm_explain.proofs.Pieces.{three}
 use Rattle.bohm_explain.proofs.Texts.{one_more}
 use Rattle.bohm_explain.proofs.verdict.put_limit.Goals as goal
 

@@ -1,6 +1,6 @@
 use Rattle.std.proofs.Common.{slice_index, arith}
 use Rattle.std.proofs.lemmas.List.{get_or_default}
-use Rattle.bohm_explain.proofs.Banding.{at_most_greatest, greatest_at_most}
+use Rattle.bohm_explain.proofs.Greatest.{at_most_greatest, greatest_at_most}
 use Rattle.bohm_explain.proofs.walking.heaviest_end.Goals as goal
 
 pub returns-clause-greatest : goal.returns-clause-greatest

@@ -1,17 +1,23 @@
-use Rattle.std.proofs.Common.{◌≡◌, ◌∷◌, ◌∙◌, map, codes, sym, subst}
+use Rattle.std.proofs.Common.{◌≡◌, ◌∷◌, ◌∙◌, map, ap, codes, sym, subst}
 use Rattle.std.specs.Prelude.{string_bytes}
 use Rattle.std.proofs.lemmas.Result.{err_from_is_err_and}
 use Rattle.clap.specs.Walk.{rows_of, texts}
 use Rattle.clap.specs.Words.{Kinds, found_of}
 use Rattle.bohm_command.specs.Faults.{IsFoundAmong}
+use Rattle.bohm_command.specs.Options.{file_in}
 use Rattle.bohm_command.proofs.ForCallers.{takes_line, same_faults, same_rows}
 use Rattle.bohm_tidy_cli.proofs.Wishing.{wished}
 use Rattle.bohm_tidy_cli.proofs.arguments.read_arguments.Goals.{After-as_slice}
 use Rattle.bohm_tidy_cli.proofs.arguments.read_arguments.Goals as goal
 
 -- the command line is the program's name, followed by the arguments
-whole : (c : After-as_slice) → texts c.as_slice.result.now ≡ codes "tidy" ∷ map string_bytes c.args.arguments.now
+whole : (c : After-as_slice) → texts c.as_slice.result.now ≡ codes "bohm-tidy" ∷ map string_bytes c.args.arguments.now
 whole c = rw c.as_slice.ensures.value c.in_ok-line.ensures
+
+pub returns-clause-file : goal.returns-clause-file
+returns-clause-file c =
+    let line = whole (goal.at.returns-clause-file c).After-as_slice in
+    c.in_ok-file.ensures ∙ ap file_in (c.in_ok-matches.ensures.rows ∙ same_rows _ _ _ _ c.in_ok-command.ensures line)
 
 pub returns-clause-ok : goal.returns-clause-ok
 returns-clause-ok c =
