@@ -103,7 +103,7 @@ fn assert_set_aside(rt: &impl Abort, closed: &Closed, asides: &[Aside])
 
 // ---- calls
 
-/// Sweeps these positions.
+/// Sweeps these positions, and adds the number of evaluations.
 pub fn sweep_these<G: Gate>(
     rt: &impl Abort,
     alloc: Global,
@@ -111,13 +111,14 @@ pub fn sweep_these<G: Gate>(
     pass: &mut Pass,
     share: &[u32],
     gate: &G,
+    evaluations: &mut u64,
 ) -> Aside
     requires { IsFree board.now pass.old }
     ensures { IsFree board.now pass.new }
 {
     assert_all_in(rt, board.batch(), share);
     let mut scratch = Scratch::new(alloc).expect(rt, "memory");
-    let swept = sweep(alloc, board, pass, share, gate, &mut scratch);
+    let swept = sweep(alloc, board, pass, share, gate, &mut scratch, evaluations);
     swept.expect(rt, "memory")
 }
 
@@ -128,18 +129,27 @@ pub fn share(rt: &impl Abort, alloc: Global, batch: &Batch, worker: u32, workers
     share_of(alloc, batch.first(), batch.len(), worker, workers).expect(rt, "memory")
 }
 
-/// Completes a closed board.
+/// Completes a closed board, whose sweeps made this many evaluations.
 pub fn finish<'a>(
     rt: &impl Abort,
     alloc: Global,
     closed: Closed<'a>,
     asides: &[Aside],
+    evaluations: u64,
 ) -> Finished<'a>
     ensures { batch_of_finished result ≡ batch_of_closed closed.entry }
 {
     assert_set_aside(rt, &closed, asides);
+    let (len, left) = (
+        u64::from(closed.batch().len()),
+        u64::from(closed.unfinished()),
+    );
+    let in_range = evaluations <= len;
+    assert!(rt; in_range);
+    let each_once = evaluations + left <= len;
+    assert!(rt; each_once);
     let mut scratch = Scratch::new(alloc).expect(rt, "memory");
-    complete(closed, asides, &mut scratch)
+    complete(closed, asides, &mut scratch, evaluations)
 }
 
 /// Runs a batch with one pass.
@@ -152,8 +162,9 @@ pub fn execute<'a>(
 {
     let (board, mut pass) = Board::open(alloc, batch)?;
     let share = share(rt, alloc, board.batch(), 0, 1);
-    let aside = sweep_these(rt, alloc, &board, &mut pass, &share, &OpenGate);
-    Ok(finish(rt, alloc, board.close(pass), &[aside]))
+    let mut count = 0u64;
+    let aside = sweep_these(rt, alloc, &board, &mut pass, &share, &OpenGate, &mut count);
+    Ok(finish(rt, alloc, board.close(pass), &[aside], count))
 }
 
 // ---- the results of a finished batch

@@ -1,7 +1,7 @@
 //! Tests of the layers that a run is made of, over their public calls. They cover texts, hashes
-//! under many seeds, names that cleared logs keep, sums without terms, procedures and their calls,
-//! sure transactions, plans, sweeps by several passes and threads, and histories in use. The logs,
-//! the gate and the generator are shared with the tests of whole runs.
+//! under many seeds, names that cleared logs keep, calls of a procedure, sure transactions, plans,
+//! sweeps by several passes and threads, and histories in use. The logs, the gate and the generator
+//! are shared with the tests of whole runs.
 #![tactic(auto)]
 
 #[cfg(test)]
@@ -24,13 +24,7 @@ mod kept_names;
 mod logs;
 #[cfg(test)]
 mod planning;
-#[cfg(test)]
-mod procedure_draws;
-#[cfg(test)]
-mod procedure_faults;
 mod shared_logs;
-#[cfg(test)]
-mod sums;
 #[cfg(test)]
 mod sweeper;
 #[cfg(test)]

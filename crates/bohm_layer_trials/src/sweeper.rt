@@ -12,11 +12,12 @@ use std::alloc::Global;
 use std::process::Abort;
 use std::thread::Threads;
 
-/// A board, and a pass that holds nothing.
+/// A board, a pass that holds nothing, and how many evaluations were made with it.
 #[derive(Drop)]
 pub struct Sweeper<'a> {
     board: Board<'a>,
     pass: Pass,
+    evaluations: u64,
     ghost free: { IsFree board pass },
 }
 
@@ -69,7 +70,7 @@ impl<'a> Sweeper<'a> {
     pub fn new<R: Abort + Threads + Sync>(rt: &R, alloc: Global, log: &'a Checked) -> Sweeper<'a> {
         let batch = first_batch(rt, alloc, log);
         let (board, pass) = Board::open(alloc, batch).expect(rt, "memory");
-        Sweeper { board, pass }
+        Sweeper::of(board, pass)
     }
 
     /// Sweeps these positions, and returns what it sets aside.
@@ -80,19 +81,29 @@ impl<'a> Sweeper<'a> {
         share: &[u32],
         gate: &G,
     ) -> Aside {
-        sweep_these(rt, alloc, &self.board, &mut self.pass, share, gate)
+        let count = &mut self.evaluations;
+        sweep_these(rt, alloc, &self.board, &mut self.pass, share, gate, count)
     }
 
     /// Splits off another pass, which claims an open position.
     pub fn hold(self, rt: &impl Abort, t: u32) -> (Sweeper<'a>, Pass) {
-        let Sweeper { board, pass } = self;
+        let Sweeper {
+            board,
+            pass,
+            evaluations,
+        } = self;
         assert_in(rt, board.batch(), t);
         let (pass, mut holder) = board.split(pass);
         let is_mine = matches!(board.claim(&mut holder, t), Claimed::Mine);
         assert!(rt; is_mine);
         assert_eq!(rt; Board::holding(&holder), Some(t));
         assert_eq!(rt; Board::holding(&pass), None);
-        (Sweeper { board, pass }, holder)
+        let sweeper = Sweeper {
+            board,
+            pass,
+            evaluations,
+        };
+        (sweeper, holder)
     }
 
     /// The status of a position, and the cell of one of its slots.
@@ -104,7 +115,11 @@ impl<'a> Sweeper<'a> {
     pub fn split(self) -> (Board<'a>, Pass, Pass)
         ensures { IsFree result.0 result.1 × IsFree result.0 result.2 }
     {
-        let Sweeper { board, pass } = self;
+        let Sweeper {
+            board,
+            pass,
+            evaluations: _,
+        } = self;
         let (left, right) = board.split(pass);
         (board, left, right)
     }
@@ -113,15 +128,23 @@ impl<'a> Sweeper<'a> {
     pub fn of(board: Board<'a>, pass: Pass) -> Sweeper<'a>
         requires { IsFree board pass }
     {
-        Sweeper { board, pass }
+        Sweeper {
+            board,
+            pass,
+            evaluations: 0,
+        }
     }
 
     /// Closes and completes the board. Returns how many positions had no outcome, and the result.
     pub fn finish(self, rt: &impl Abort, alloc: Global, asides: &[Aside]) -> (u32, Finished<'a>) {
-        let Sweeper { board, pass } = self;
+        let Sweeper {
+            board,
+            pass,
+            evaluations,
+        } = self;
         let closed = board.close(pass);
         let unfinished = closed.unfinished();
-        let finished = finish(rt, alloc, closed, asides);
+        let finished = finish(rt, alloc, closed, asides, evaluations);
         (unfinished, finished)
     }
 }

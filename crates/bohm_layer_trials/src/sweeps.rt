@@ -49,7 +49,8 @@ fn sweeps_so(
     aside
 }
 
-/// Closes a board of `len` counters, of which `without` have no outcome yet.
+/// Closes a board of `len` counters, of which `without` have no outcome yet, and asserts how many
+/// evaluations it then took in all.
 fn ends_counted(
     rt: &impl Abort,
     alloc: Global,
@@ -57,10 +58,12 @@ fn ends_counted(
     asides: &[Aside],
     without: u32,
     len: u32,
+    evaluations: u64,
 ) {
     let (unfinished, finished) = sweeper.finish(rt, alloc, asides);
     let told = (unfinished, finished.first(), finished.len());
     assert_eq!(rt; told, (without, 1, len));
+    assert_eq!(rt; finished.evaluations(), evaluations);
     assert_counted(rt, &finished, len);
 }
 
@@ -135,8 +138,18 @@ fn look_at_held(rt: &impl Abort, alloc: Global, board: &Board, mut pass: Pass, g
     wait_for(&gate.claimed);
     assert_eq!(rt; gate.claimed.load(Ordering::SeqCst), 1);
     assert_held(rt, board, &mut pass);
-    let aside = sweep_these(rt, alloc, board, &mut pass, &[3, 2], &OpenGate);
+    let mut evaluations = 0u64;
+    let aside = sweep_these(
+        rt,
+        alloc,
+        board,
+        &mut pass,
+        &[3, 2],
+        &OpenGate,
+        &mut evaluations,
+    );
     assert_eq!(rt; aside.pairs(), [(3, 1), (2, 1)].as_slice());
+    assert_eq!(rt; evaluations, 0);
     gate.let_go.store(1, Ordering::SeqCst);
     wait_for(&gate.finished);
     assert_finished(rt, board, pass);
@@ -156,8 +169,10 @@ fn work(rt: &impl Abort, alloc: Global, board: &Board, job: Job, gate: &FirstHel
     if looks {
         look_at_held(rt, alloc, board, pass, gate);
     } else {
-        let aside = sweep_these(rt, alloc, board, &mut pass, &[1], gate);
+        let mut evaluations = 0u64;
+        let aside = sweep_these(rt, alloc, board, &mut pass, &[1], gate, &mut evaluations);
         assert_eq!(rt; aside.pairs(), [].as_slice());
+        assert_eq!(rt; evaluations, 1);
     }
 }
 
@@ -216,7 +231,8 @@ fn held_then_finished(rt: HostRuntime) {
     let log = counters(alloc, 3).expect(&rt, "a log");
     let mut sweeper = held_before(&rt, alloc, &log);
     sweeps_so(&rt, alloc, &mut sweeper, &[3, 2], &[]);
-    ends_counted(&rt, alloc, sweeper, &[], 0, 3);
+    // The first was evaluated by another pass, whose count stays with it.
+    ends_counted(&rt, alloc, sweeper, &[], 0, 3, 2);
 }
 
 const OVERWRITTEN: &str = "\
@@ -243,6 +259,7 @@ fn sure_write_goes_past(rt: HostRuntime) {
     let (_, finished) = sweeper.finish(&rt, alloc, &[first]);
     let cells = (cell(&rt, &finished, 1), cell(&rt, &finished, 2));
     assert_eq!(rt; cells, (present(6), present(9)));
+    assert_eq!(rt; finished.evaluations(), 2);
 }
 
 // Asserts what a sweep of eight positions leaves if another pass holds the fourth.
@@ -278,7 +295,7 @@ fn eight_one_held(rt: HostRuntime) {
     let (mut sweeper, holder) = Sweeper::new(&rt, alloc, &log).hold(&rt, 4);
     let aside = sweep_around(&rt, alloc, &mut sweeper);
     drop(holder);
-    ends_counted(&rt, alloc, sweeper, &[aside], 5, 8);
+    ends_counted(&rt, alloc, sweeper, &[aside], 5, 8, 8);
 }
 
 // The numbers from this one down to 1.
@@ -297,7 +314,7 @@ fn deepest_work_stack(rt: HostRuntime) {
     let mut sweeper = Sweeper::new(&rt, alloc, &log);
     let share = falling(&rt, alloc, 4096);
     let aside = sweeps_so(&rt, alloc, &mut sweeper, share.as_slice(), &[]);
-    ends_counted(&rt, alloc, sweeper, &[aside], 0, 4096);
+    ends_counted(&rt, alloc, sweeper, &[aside], 0, 4096, 4096);
 }
 
 #[test]

@@ -1,6 +1,6 @@
-//! Texts that are read, refused and printed.
+//! Texts that are read and printed.
 
-use bohm_text::{TextFault, laws, parse, print_doc};
+use bohm_text::{parse, print_doc};
 use bohm_types::NoMemory;
 use std::alloc::Global;
 
@@ -73,37 +73,6 @@ fn documents_are_printed_again(rt: HostRuntime) {
         let again = printed(rt.alloc(), text).expect(&rt, "a document");
         assert_eq!(rt; again.as_slice(), text);
     }
-}
-
-/// Texts of no document, and why: numbers in a wrong form or out of range, and a text that is cut
-/// off.
-const REFUSED: [(&[u8], TextFault); 4] = [
-    (
-        b"log 1\ntxn\nreads\nwrites a\nset a = 01\nend\n",
-        TextFault::Line(5),
-    ),
-    (
-        b"log 1\ntxn\nreads\nwrites\nshow -0\nend\n",
-        TextFault::Line(5),
-    ),
-    (
-        b"log 1\ntxn\nreads\nwrites\nshow 9223372036854775808\nend\n",
-        TextFault::Line(5),
-    ),
-    (b"log 1\na 5", TextFault::Short),
-];
-
-#[test]
-fn other_texts_are_refused(rt: HostRuntime) {
-    for (text, fault) in &REFUSED {
-        assert_eq!(rt; parse(rt.alloc(), text).err(), Some(*fault), "{text:?}");
-    }
-}
-
-#[test]
-fn laws_are_called() {
-    laws::one_text();
-    laws::tidy_text();
 }
 
 #[test]
