@@ -1,5 +1,6 @@
 /* Transfers between accounts by procedures: each procedure is read once, and then called with keys and amounts. Each
- * account is looked up once, and named by its handle. Writes the replies, a line `--` and the balances. */
+ * account is looked up once, and named by its handle. Most calls run as one list, the last two by themselves. Writes the
+ * replies, the last one with the statement that failed, a line `--` and the balances. */
 #include "../../crates/bohm_c/include/bohm.h"
 
 #include <stdio.h>
@@ -35,8 +36,10 @@ static void need_done(const char *what, uint32_t status) {
 
 static bohm_procedure prepare(const uint8_t *seed, const char *text) {
     bohm_procedure procedure = {0};
-    bohm_bytes line = BOHM_NO_BYTES;
-    need_done("prepare", bohm_prepare(&procedure, seed, (const uint8_t *)text, strlen(text), &line));
+    bohm_bytes report = BOHM_NO_BYTES;
+    uint32_t status = bohm_prepare_report(&procedure, seed, (const uint8_t *)text, strlen(text), &report);
+    if (status == BOHM_REFUSED) fputs((const char *)report.at, stderr);
+    need_done("prepare", status);
     return procedure;
 }
 
@@ -67,16 +70,34 @@ int main(void) {
     transfer(&calls, &by, alice, carol, 70);
     transfer(&calls, &by, alice, bob, 1);
     transfer(&calls, &by, bob, bob, 50);
-    need_done("audit", bohm_push(&calls, &audit, 0, 0, 0, 0));
 
     need_done("run_calls", bohm_run_calls(&machine, &calls, &out));
     fwrite(out.at, 1, out.len, stdout);
     bohm_free_bytes(&out);
 
-    need_done("store_at", bohm_store_at(&machine, 6, &out));
+    bohm_reply reply;
+    int64_t shown[BOHM_MOST_SHOWN];
+    need_done("audit", bohm_call(&machine, &audit, 0, 0, 0, 0, &reply, shown, BOHM_MOST_SHOWN));
+    printf("6 commit");
+    for (uint64_t i = 0; i < reply.shown; i++) printf(" %lld", (long long)shown[i]);
+    printf("\n");
+
+    const bohm_key names[] = {{(const uint8_t *)"alice", 5}, {(const uint8_t *)"carol", 5}};
+    int64_t amount = 5;
+    need_done("transfer", bohm_call(&machine, &by, names, 2, &amount, 1, &reply, shown, BOHM_MOST_SHOWN));
+    if (reply.outcome == BOHM_ABORT_NEED) {
+        size_t line;
+        need_done("statement_text", bohm_statement_text(&by, reply.statement, &line, &out));
+        printf("7 abort need %u: %s\n", reply.statement, (const char *)out.at);
+        bohm_free_bytes(&out);
+    }
+
+    bohm_entries store = BOHM_NO_ENTRIES;
+    need_done("store_rows", bohm_store_rows(&machine, 7, &store));
     printf("--\n");
-    fwrite(out.at + strlen("log 1\n"), 1, out.len - strlen("log 1\n"), stdout);
-    bohm_free_bytes(&out);
+    for (size_t i = 0; i < store.len; i++)
+        printf("%.*s %lld\n", BOHM_LONGEST_KEY, (const char *)store.at[i].key, (long long)store.at[i].value);
+    bohm_free_entries(&store);
 
     bohm_close_calls(&calls);
     bohm_close_procedure(&by);

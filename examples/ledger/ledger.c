@@ -27,7 +27,7 @@ typedef struct {
 
 static sqlite3 *base;
 static bohm_machine machine;
-static bohm_calls calls;
+static bohm_calls calls; /* a list that tests calls that don't run */
 static uint8_t seed[16];
 static int edition = 2;
 static definition definitions[MOST_PROCEDURES];
@@ -103,22 +103,17 @@ static void refused_by(bohm_bytes *line, int skipped) {
     bohm_free_bytes(line);
 }
 
-/* The reply to the transaction that has just run. */
-static void answer_with_reply(void) {
-    bohm_reply_rows rows = BOHM_NO_ROWS;
-    bohm_values values = BOHM_NO_VALUES;
+/* The reply to the transaction that has just run, with the values that it shows. */
+static void answer_with(const bohm_reply *reply, const int64_t *shown) {
     static const char *reasons[] = {"", "need", "fail", "absent", "range"};
-    done("rows", bohm_rows(&machine, &rows, &values));
-    bohm_reply *reply = &rows.at[0];
     int len = snprintf(answer, sizeof answer, "%u ", top());
     if (reply->outcome != BOHM_COMMIT) {
         snprintf(answer + len, sizeof answer - len, "abort %s %u", reasons[reply->outcome], reply->statement);
     } else {
         len += snprintf(answer + len, sizeof answer - len, "commit");
         for (uint64_t at = 0; at < reply->shown; at++)
-            len += snprintf(answer + len, sizeof answer - len, " %lld", (long long)values.at[reply->first + at]);
+            len += snprintf(answer + len, sizeof answer - len, " %lld", (long long)shown[at]);
     }
-    bohm_free_rows(&rows, &values);
 }
 
 static definition *find(const char *name) {
@@ -176,13 +171,16 @@ static void call(char *words) {
     for (size_t at = 0; at < of->values; at++)
         if (!is_value(given[of->keys + at], &values[at])) return refuse("value");
     for (size_t at = 0; at < of->keys; at++) keys[at] = (bohm_key){(const uint8_t *)given[at], strlen(given[at])};
-    uint32_t status = bohm_push(&calls, &of->procedure, keys, of->keys, values, of->values);
+    bohm_procedure *by = &of->procedure;
+    bohm_reply reply;
+    int64_t shown[BOHM_MOST_SHOWN];
+    uint32_t status = is_barred ? bohm_push(&calls, by, keys, of->keys, values, of->values)
+                                : bohm_call(&machine, by, keys, of->keys, values, of->values, &reply, shown, BOHM_MOST_SHOWN);
     if (status == BOHM_NO_KEY) return refuse("key");
-    done("push", status);
-    if (!is_barred) done("run_calls", bohm_run_calls_held(&machine, &calls));
+    done("call", status);
+    if (!is_barred) return answer_with(&reply, shown);
     done("clear_calls", bohm_clear_calls(&calls));
-    if (is_barred) return refuse("id");
-    answer_with_reply();
+    refuse("id");
 }
 
 static void transact(const char *lines) {
@@ -197,7 +195,11 @@ static void transact(const char *lines) {
     bohm_free_bytes(&line);
     done("apply", status);
     if (is_barred) return refuse("id");
-    answer_with_reply();
+    bohm_reply_rows rows = BOHM_NO_ROWS;
+    bohm_values values = BOHM_NO_VALUES;
+    done("rows", bohm_rows(&machine, &rows, &values));
+    answer_with(rows.at, values.at);
+    bohm_free_rows(&rows, &values);
 }
 
 static int is_name(const char *word) {
@@ -277,12 +279,17 @@ static void open_file(const char *path) {
 
 static void open_machine(int64_t checkpoint) {
     text store = {0};
-    sqlite3_stmt *rows = prepared("SELECT key || ' ' || value FROM balance ORDER BY key");
-    append_line(&store, "log 1");
-    while (sqlite3_step(rows) == SQLITE_ROW) append_line(&store, (const char *)sqlite3_column_text(rows, 0));
+    sqlite3_stmt *rows = prepared("SELECT key, value FROM balance ORDER BY key");
+    while (sqlite3_step(rows) == SQLITE_ROW) {
+        bohm_entry entry = {.value = sqlite3_column_int64(rows, 1)};
+        need(sqlite3_column_bytes(rows, 0) <= BOHM_LONGEST_KEY, "a key of the store");
+        memcpy(entry.key, sqlite3_column_text(rows, 0), (size_t)sqlite3_column_bytes(rows, 0));
+        append(&store, (const char *)&entry, sizeof entry);
+    }
     sqlite3_finalize(rows);
     if (getentropy(seed, sizeof seed)) fail("getentropy", "it failed");
-    done("open", bohm_open(&machine, seed, (uint8_t *)store.at, store.len, (uint32_t)checkpoint, NULL));
+    size_t count = store.len / sizeof(bohm_entry);
+    done("open_rows", bohm_open_rows(&machine, seed, (bohm_entry *)store.at, count, (uint32_t)checkpoint));
     done("open_calls", bohm_open_calls_for(&machine, &calls, (uint32_t)edition));
     free(store.at);
 }
@@ -386,20 +393,18 @@ static void end(commit *now) {
 
 /* Writes every row; bohm.Ledger writes those that changed. */
 static void checkpoint(void) {
-    bohm_bytes store = BOHM_NO_BYTES;
-    done("store_at", bohm_store_at(&machine, top(), &store));
+    bohm_entries store = BOHM_NO_ENTRIES;
+    done("store_rows", bohm_store_rows(&machine, top(), &store));
     execute("BEGIN IMMEDIATE; DELETE FROM balance");
     sqlite3_stmt *row = prepared("INSERT INTO balance VALUES (?, ?)");
-    char *at = (char *)store.at + strlen("log 1\n"), *close = (char *)store.at + store.len;
-    while (at < close) {
-        size_t key = strcspn(at, " ");
-        sqlite3_bind_text(row, 1, at, (int)key, SQLITE_STATIC);
-        sqlite3_bind_int64(row, 2, strtoll(at + key, &at, 10));
+    for (size_t at = 0; at < store.len; at++) {
+        const char *key = (const char *)store.at[at].key;
+        sqlite3_bind_text(row, 1, key, (int)strnlen(key, BOHM_LONGEST_KEY), SQLITE_STATIC);
+        sqlite3_bind_int64(row, 2, store.at[at].value);
         ran(row);
-        at++;
     }
     sqlite3_finalize(row);
-    bohm_free_bytes(&store);
+    bohm_free_entries(&store);
     sqlite3_stmt *head = prepared("UPDATE ledger SET checkpoint = ?");
     sqlite3_bind_int64(head, 1, top());
     ran(head);

@@ -1,5 +1,4 @@
-//! Finds libbohm.a: in the folder that `BOHM_LIB` names, by pkg-config, or in the repository that contains this folder,
-//! where it is proved and built if it doesn't exist yet.
+//! Finds libbohm.a: in the folder that `BOHM_LIB` names, by pkg-config, or in the repository that contains this folder.
 use std::process::{exit, Command};
 use std::{env, path::Path, path::PathBuf};
 
@@ -15,11 +14,7 @@ fn by_pkg_config() -> Option<PathBuf> {
 
 fn in_repository() -> Option<PathBuf> {
     let top = Path::new(&env::var_os("CARGO_MANIFEST_DIR")?).join("../..").canonicalize().ok()?;
-    let chosen = || told(Command::new(top.join("scripts/choose")).arg("library")).map(|folder| top.join(folder));
-    chosen().or_else(|| {
-        let is_proved = Command::new(top.join("prove")).arg("library").status().ok()?.success();
-        chosen().filter(|_| is_proved)
-    })
+    told(Command::new(top.join("scripts/choose")).arg("library")).map(|folder| top.join(folder))
 }
 
 /// Ends the build with this error.
@@ -29,9 +24,12 @@ fn stop(why: &str) -> ! {
 }
 
 fn main() {
-    let named = env::var_os("BOHM_LIB").map(PathBuf::from);
+    let named = env::var_os("BOHM_LIB").filter(|folder| !folder.is_empty()).map(PathBuf::from);
     let Some(folder) = named.or_else(by_pkg_config).or_else(in_repository) else {
-        stop("libbohm.a isn't found: set BOHM_LIB to its folder, or install bohm.pc where pkg-config finds it");
+        stop(
+            "libbohm.a isn't found: set BOHM_LIB to its folder, or install bohm.pc where pkg-config finds it; \
+             in a checkout of its sources, `./prove library` builds it",
+        );
     };
     let archive = folder.join("libbohm.a");
     if !archive.is_file() {

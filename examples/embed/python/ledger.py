@@ -1,4 +1,6 @@
-"""A ledger in a Python program, like ledger.c: `ledger.py LIBRARY LOG SIZE`."""
+"""A ledger in a Python program, like ledger.c: `ledger.py LOG SIZE`. `BOHM_LIBRARY` names the shared library, if it isn't
+found."""
+import os
 import sys
 
 import bohm
@@ -10,8 +12,8 @@ def check_balances(ledger, ts):
         assert ledger.value_at(key, ts) == value
 
 
-def main(library, log, size):
-    library = bohm.load(library)
+def main(log, size):
+    library = bohm.load(os.environ.get("BOHM_LIBRARY"))
     with open(log) as file:
         text = file.read()
     store, found, txns = text.partition("\ntxn\n")
@@ -26,7 +28,7 @@ def main(library, log, size):
             if second:
                 assert second.apply(segment) == replies
             elif number == len(segments) // 2:
-                second = bohm.Machine(ledger.snapshot(), ledger.top, library=library)
+                second = bohm.Machine.open_rows(ledger.store_rows(), ledger.top, library=library)
         if second:
             assert second.digest() == ledger.digest()
             second.close()
@@ -37,4 +39,4 @@ def main(library, log, size):
         print("--", *(f"{key} {value}" for key, value in ledger.store_at().items()), sep="\n")
 
 
-main(sys.argv[1], sys.argv[2], int(sys.argv[3]))
+main(sys.argv[1], int(sys.argv[2]))

@@ -1,5 +1,5 @@
-"""Transfers between accounts by procedures, like procedures.c: `procedures.py LIBRARY`."""
-import sys
+"""Transfers between accounts by procedures, like procedures.c. `BOHM_LIBRARY` names the shared library, if it isn't found."""
+import os
 
 import bohm
 
@@ -33,15 +33,17 @@ end
 """
 
 
-def main(library):
-    with bohm.Machine(ACCOUNTS, library=bohm.load(library)) as machine:
+def main():
+    with bohm.Machine(ACCOUNTS, library=bohm.load(os.environ.get("BOHM_LIBRARY"))) as machine:
         transfer, audit = machine.prepare(TRANSFER), machine.prepare(AUDIT)
         print(transfer(from_="alice", to="bob", amount=30))
         alice, bob, carol = map(machine.key, ["alice", "bob", "carol"])
         calls = [transfer.call(bob, carol, 80), transfer.call(alice, carol, amount=70), transfer.call(alice, bob, 1),
                  transfer.call(bob, bob, 50)]
         print(*machine.run(calls), audit(), sep="\n")
+        reply = transfer("alice", "carol", 5)
+        print(f"{reply}: {transfer.statement(reply.statement)}")
         print("--", *(f"{key} {value}" for key, value in machine.store_at().items()), sep="\n")
 
 
-main(sys.argv[1])
+main()

@@ -12,7 +12,9 @@ from ctypes import POINTER, byref, c_char_p, c_int64, c_size_t, c_uint8, c_uint3
 from itertools import groupby, islice
 from typing import Any, Callable, Dict, Iterable, Iterator, List, Mapping, Optional, Tuple, Union
 
-from .errors import BusyError, ClosedError, KeptError, NoKeyError, Status, StoppedError, error_for, note_on, refusal_for
+from .errors import (
+    BusyError, ClosedError, KeptError, NoKeyError, Status, StoppedError, UnfitError, error_for, note_on, refusal_for,
+)
 from .replies import REASONS, Reply
 
 BATCH = 4096
@@ -22,6 +24,10 @@ KEY = re.compile(rb"[a-z][a-z0-9_]{0,31}")
 PAUSE = 0.0001
 # The layout of the library's reply: outcome, statement, the index of its first value among all values, and their count.
 ROW = struct.Struct("=IIQQ")
+
+
+# The bytes of a row of a store.
+ENTRY = 40
 
 
 class _Handle(ctypes.Structure):
@@ -39,31 +45,42 @@ class _KeyBytes(ctypes.Structure):
 
 
 class _Counts(ctypes.Structure):
-    """The library fills what it knows of: an older one leaves the rest."""
-
-    _fields_ = [("floor", c_uint32), ("top", c_uint32), ("versions", c_uint64), ("waiting", c_uint64), ("room", c_uint64 * 13)]
+    _fields_ = [("floor", c_uint32), ("top", c_uint32), ("versions", c_uint64), ("waiting", c_uint64), ("names", c_uint64),
+                ("bytes", c_uint64), ("left", c_uint32), ("unused", c_uint32)]
 
 
 _TEXT = [c_char_p, c_size_t]
 _HANDLE, _OUT = POINTER(_Handle), POINTER(_Array)
+# The reply to a single call, and the values that it shows, of which there are at most 16.
+_Row, _Shown = ctypes.c_char * ROW.size, c_int64 * 16
+# What follows the keys of a single call.
+_REPLIED = [c_size_t, POINTER(c_int64), c_size_t, _Row, _Shown, c_size_t]
 _DECLARED: Dict[str, List[Any]] = {
     "bohm_answer": [c_char_p, *_TEXT, _OUT],
     "bohm_open": [_HANDLE, c_char_p, *_TEXT, c_uint32, _OUT],
+    "bohm_open_rows": [_HANDLE, c_char_p, c_char_p, c_size_t, c_uint32],
     "bohm_apply_held": [_HANDLE, *_TEXT, _OUT],
     "bohm_rows": [_HANDLE, _OUT, _OUT],
     "bohm_value_at": [_HANDLE, *_TEXT, c_uint32, POINTER(c_uint8), POINTER(c_int64)],
     "bohm_store_at": [_HANDLE, c_uint32, _OUT],
+    "bohm_store_rows": [_HANDLE, c_uint32, _OUT],
     "bohm_digest": [_HANDLE, c_uint32, ctypes.c_char * 32],
     "bohm_trim": [_HANDLE, c_uint32],
+    "bohm_compact": [_HANDLE],
     "bohm_timestamps": [_HANDLE, POINTER(c_uint32), POINTER(c_uint32)],
-    "bohm_counts": [_HANDLE, POINTER(_Counts)],
-    "bohm_prepare": [_HANDLE, c_char_p, *_TEXT, _OUT],
+    "bohm_counts_sized": [_HANDLE, POINTER(_Counts), c_size_t],
+    "bohm_prepare_report": [_HANDLE, c_char_p, *_TEXT, _OUT],
+    "bohm_statement_text": [_HANDLE, c_uint32, POINTER(c_size_t), _OUT],
     "bohm_open_calls_for": [_HANDLE, _HANDLE, c_uint32],
     "bohm_push": [_HANDLE, _HANDLE, POINTER(_KeyBytes), c_size_t, POINTER(c_int64), c_size_t],
     "bohm_key_handle": [_HANDLE, *_TEXT, POINTER(c_uint32)],
     "bohm_push_named": [_HANDLE, _HANDLE, POINTER(c_uint32), c_size_t, POINTER(c_int64), c_size_t],
     "bohm_run_calls_held": [_HANDLE, _HANDLE],
+    "bohm_calls_text": [_HANDLE, _OUT],
     "bohm_clear_calls": [_HANDLE],
+    "bohm_call": [_HANDLE, _HANDLE, POINTER(_KeyBytes), *_REPLIED],
+    "bohm_machine_key": [_HANDLE, *_TEXT, POINTER(c_uint32)],
+    "bohm_call_named": [_HANDLE, _HANDLE, POINTER(c_uint32), *_REPLIED],
 }
 _WITHOUT_STATUS: Dict[str, List[Any]] = {
     "bohm_close": [_HANDLE], "bohm_close_procedure": [_HANDLE], "bohm_close_calls": [_HANDLE], "bohm_free": [c_void_p]}
@@ -90,11 +107,11 @@ class Table:
         self.calls["bohm_free"](at)
         return data
 
-    def asked(self, name: str, *words: Any) -> bytes:
-        """The bytes that a call returns. Raises its status's exception, or a refusal with its line."""
+    def asked(self, name: str, *words: Any, size: int = 1) -> bytes:
+        """The bytes of what a call returns, elements of this size. Raises its status's exception, or a refusal with its line."""
         out = _Array()
         status = self.call(name, *words, byref(out))
-        given = self.taken(out)
+        given = self.taken(out, size)
         if status == Status.REFUSED:
             raise refusal_for(given)
         if status:
@@ -220,7 +237,20 @@ class Procedure:
         machine._check_turn()
         with machine._inside:
             machine._opened()
-            machine._table.asked("bohm_prepare", byref(self._raw), machine._seed, text, len(text))
+            machine._table.asked("bohm_prepare_report", byref(self._raw), machine._seed, text, len(text))
+
+    def _statement(self, number: int) -> Optional[Tuple[int, str]]:
+        """The line and the text of a statement, if there is one with this number."""
+        line = c_size_t(0)
+        # A handler may look, too: no call of its own thread is within the library.
+        with self.machine._inside:
+            if self.closed:
+                raise ClosedError("the procedure is closed")
+            try:
+                text = self.machine._table.asked("bohm_statement_text", byref(self._raw), number, byref(line))
+            except UnfitError:
+                return None
+        return line.value, text.decode()
 
     def _describe(self, edition: int, keys: Tuple[str, ...], values: Tuple[str, ...], places: Dict[str, int]) -> None:
         self.edition, self.keys, self.values, self._places = edition, keys, values, places
@@ -257,7 +287,7 @@ class Procedure:
         """Frees the procedure. Does nothing if it is closed."""
         if self._raw.at:
             self.machine._check_turn()
-            with self.machine._writing:
+            with self.machine._writing, self.machine._inside:
                 self.machine._table.calls["bohm_close_procedure"](byref(self._raw))
 
     def __del__(self) -> None:
@@ -274,7 +304,7 @@ _Fill = Callable[[Any], None]
 class Machine:
     """A store with its past."""
 
-    def __init__(self, table: Table, seed: bytes, snapshot: bytes, top: int) -> None:
+    def __init__(self, table: Table, seed: bytes, store: Any, top: int, is_rows: bool = False) -> None:
         # Who is changing the machine, for all of a call; and who is using it, for a batch or to read.
         self._writing, self._inside = threading.RLock(), threading.RLock()
         self._table, self._seed = table, seed
@@ -286,8 +316,20 @@ class Machine:
         self._pending: Dict[int, _Chunks] = {}
         # The arrays that replies are taken in, and the timestamp before them.
         self._taking = -1, _Array(), _Array()
+        # The timestamp before a single call, and where the library puts its reply.
+        self._single: Optional[Tuple[int, Any, Any]] = None
         self._floor = self._top = self._timestamp(top)
-        table.asked("bohm_open", byref(self._raw), seed, snapshot, len(snapshot), self._top)
+        given = store if isinstance(store, bytes) else bytes(store)
+        if is_rows:
+            self._open_rows(given)
+        else:
+            table.asked("bohm_open", byref(self._raw), seed, given, len(given), self._top)
+
+    def _open_rows(self, rows: bytes) -> None:
+        count, rest = divmod(len(rows), ENTRY)
+        if rest:
+            raise ValueError("the rows of a store have 40 bytes each")
+        self._demand("bohm_open_rows", byref(self._raw), self._seed, rows, count, self._top)
 
     floor = property(lambda self: self._floor, doc="The least timestamp that can be read.")
     top = property(lambda self: self._top, doc="The timestamp of the last transaction.")
@@ -325,10 +367,11 @@ class Machine:
 
     def _list(self, edition: int) -> Any:
         if edition not in self._lists:
-            raw = _Handle(None)
-            self._demand("bohm_open_calls_for", self._opened(), byref(raw), edition)
-            self._lists[edition] = raw
-        return byref(self._lists[edition])
+            self._lists[edition] = _Handle(None)
+        calls = byref(self._lists[edition])
+        if not self._lists[edition].at:
+            self._demand("bohm_open_calls_for", self._opened(), calls, edition)
+        return calls
 
     def _demand(self, name: str, *words: Any) -> None:
         status = self._table.call(name, *words)
@@ -336,22 +379,29 @@ class Machine:
             raise error_for(status)
 
     def _handle(self, edition: int, index: int) -> int:
+        """A key's handle in the list of an edition, or on the machine for edition 0."""
         if (edition, index) not in self._handles:
             made, name = c_uint32(0), self._names[index]
-            self._demand("bohm_key_handle", self._list(edition), name, len(name), byref(made))
+            if edition:
+                self._demand("bohm_key_handle", self._list(edition), name, len(name), byref(made))
+            else:
+                self._demand("bohm_machine_key", self._opened(), name, len(name), byref(made))
             self._handles[edition, index] = made.value
         return self._handles[edition, index]
 
-    def _push(self, procedure: Procedure, named: Tuple[Union[int, bytes], ...], values: Tuple[int, ...]) -> None:
-        edition, count = procedure.edition, len(named)
-        calls, raw, numbers = self._list(edition), byref(procedure._raw), (c_int64 * len(values))(*values)
+    def _keys(self, edition: int, named: Tuple[Union[int, bytes], ...]) -> Tuple[str, Any]:
+        """The keys of a call, and the end of the name of the function that takes them: handles if all were looked up, or
+        bytes."""
+        count = len(named)
         if all(isinstance(key, int) for key in named):
-            handles = (c_uint32 * count)(*[self._handle(edition, key) for key in named if isinstance(key, int)])
-            self._demand("bohm_push_named", calls, raw, handles, count, numbers, len(values))
-        else:
-            names = [self._names[key] if isinstance(key, int) else key for key in named]
-            keys = (_KeyBytes * count)(*[_KeyBytes(name, len(name)) for name in names])
-            self._demand("bohm_push", calls, raw, keys, count, numbers, len(values))
+            return "_named", (c_uint32 * count)(*[self._handle(edition, key) for key in named if isinstance(key, int)])
+        names = [self._names[key] if isinstance(key, int) else key for key in named]
+        return "", (_KeyBytes * count)(*[_KeyBytes(name, len(name)) for name in names])
+
+    def _push(self, procedure: Procedure, named: Tuple[Union[int, bytes], ...], values: Tuple[int, ...]) -> None:
+        calls, numbers = self._list(procedure.edition), (c_int64 * len(values))(*values)
+        way, keys = self._keys(procedure.edition, named)
+        self._demand("bohm_push" + way, calls, byref(procedure._raw), keys, len(named), numbers, len(values))
 
     # --- running ---
 
@@ -362,10 +412,16 @@ class Machine:
         self._table.call("bohm_timestamps", self._opened(), byref(floor), byref(top))
         if top.value == self._top:
             return
+        is_taken = any(self._top in chunks for chunks in self._pending.values())
+        if self._single and self._single[0] == self._top:
+            if not is_taken:
+                into[self._top] = (self._single[1].raw, bytes(self._single[2]))
+            self._top = top.value
+            return
         if self._taking[0] != self._top:
             self._taking = self._top, _Array(), _Array()
         behind, rows, values = self._taking
-        if not any(behind in chunks for chunks in self._pending.values()):
+        if not is_taken:
             if not rows.at and self._table.call("bohm_rows", self._opened(), byref(rows), byref(values)):
                 raise KeptError()
             into[behind] = (ctypes.string_at(rows.at, rows.len * ROW.size), ctypes.string_at(values.at, values.len * 8) if values.at else b"")
@@ -389,6 +445,7 @@ class Machine:
     def _run_batch(self, chunks: _Chunks, run: Callable[[], int]) -> None:
         with self._inside:
             self._opened()
+            self._single = None
             status = run()
             if status == Status.STOPPED or not status:
                 self._take_rows(chunks)
@@ -460,21 +517,55 @@ class Machine:
         """Runs calls."""
         return self._returned(self._run_calls(tuple(calls)))
 
-    def _run_calls(self, wanted: Tuple[Call, ...]) -> _Chunks:
+    def _single_run(self, call: Call) -> Callable[[], int]:
+        """The run of a call without a list."""
+        def run() -> int:
+            values, row, shown = (c_int64 * len(call.values))(*call.values), _Row(), _Shown()
+            way, keys = self._keys(0, call._named)
+            self._single = self._top, row, shown
+            return self._table.call("bohm_call" + way, self._opened(), byref(call.procedure._raw), keys, len(call._named), values, len(values),
+                                    row, shown, len(shown))
+        return run
+
+    def _check_calls(self, wanted: Tuple[Any, ...]) -> None:
         for place, call in enumerate(wanted):
             if not isinstance(call, Call):
                 raise TypeError(f"call {place}: {call!r} is not a Call")
             if call.procedure.machine is not self:
                 raise ValueError(f"call {place}: the procedure belongs to another machine")
+
+    def _check_open(self, wanted: Tuple[Call, ...]) -> None:
+        self._opened()
+        closed = next((place for place, call in enumerate(wanted) if call.procedure.closed), None)
+        if closed is not None:
+            raise ClosedError("the procedure is closed" if len(wanted) == 1 else f"call {closed}: the procedure is closed")
+
+    def _run_calls(self, wanted: Tuple[Call, ...]) -> _Chunks:
+        self._check_calls(wanted)
         self._check_turn()
         with self._writing:
-            self._opened()
-            closed = next((place for place, call in enumerate(wanted) if call.procedure.closed), None)
-            if closed is not None:
-                raise ClosedError("the procedure is closed" if len(wanted) == 1 else f"call {closed}: the procedure is closed")
+            self._check_open(wanted)
             self._set_aside()
             self._check_room(len(wanted))
-            return self._run_batches(self._call_batches(wanted))
+            return self._run_batches((self._single_run(wanted[0]),) if len(wanted) == 1 else self._call_batches(wanted))
+
+    def _calls_text(self, calls: Tuple[Call, ...]) -> bytes:
+        """The log that calls of one edition are, of which a batch has room."""
+        self._check_calls(calls)
+        editions = [*{call.procedure.edition for call in calls}]
+        if len(editions) != 1:
+            raise ValueError("the calls are of two editions")
+        self._check_turn()
+        with self._writing:
+            self._check_open(calls)
+            with self._inside:
+                listed = self._list(editions[0])
+                self._table.call("bohm_clear_calls", listed)
+                for call in calls:
+                    self._push(call.procedure, call._named, call.values)
+                text = self._table.asked("bohm_calls_text", listed)
+                self._table.call("bohm_clear_calls", listed)
+                return text
 
     def _column(self, name: str, column: Any, is_key: bool) -> List[int]:
         try:
@@ -631,13 +722,33 @@ class Machine:
             self._demand("bohm_trim", self._opened(), least)
             self._floor = max(self._floor, least)
 
-    def _counts(self) -> Tuple[int, int, int, int]:
+    def store_rows(self, ts: Optional[int] = None) -> bytes:
+        """The rows of the store at a timestamp, or at the top, which `open_rows` takes."""
+        self._check_turn()
+        with self._inside:
+            return self._table.asked("bohm_store_rows", self._opened(), self._timestamp(ts), size=ENTRY)
+
+    def compact(self) -> None:
+        """Drops the past, and gives back the memory of all keys that have no value."""
+        self._check_turn()
+        with self._writing:
+            self._opened()
+            self._set_aside()
+            with self._inside:
+                # Lists share names that the machine gives back, and their handles are made again.
+                self._handles = {of: handle for of, handle in self._handles.items() if not of[0]}
+                for calls in self._lists.values():
+                    self._table.calls["bohm_close_calls"](byref(calls))
+                self._demand("bohm_compact", self._opened())
+                self._floor = self._top
+
+    def _counts(self) -> Tuple[int, int, int, int, int, int, int]:
         raw = _Counts()
         self._check_turn()
         with self._inside:
-            self._table.call("bohm_counts", self._opened(), byref(raw))
+            self._table.call("bohm_counts_sized", self._opened(), byref(raw), ctypes.sizeof(raw))
             pending = sum(len(rows) // ROW.size for chunks in self._pending.values() for rows, _ in chunks.values())
-        return raw.floor, raw.top, raw.versions, raw.waiting + pending
+        return raw.floor, raw.top, raw.versions, raw.waiting + pending, raw.names, raw.bytes, raw.left
 
     def close(self) -> None:
         """Frees the machine. Does nothing if it is closed."""

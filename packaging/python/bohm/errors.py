@@ -23,6 +23,7 @@ class Status(enum.IntEnum):
     KEPT = 11
     UNFIT = 12
     MISUSE = 13
+    UNSORTED = 14
 
 
 class BohmError(Exception):
@@ -36,14 +37,15 @@ class BohmError(Exception):
 
 
 class RefusedError(BohmError, ValueError):
-    """A text was refused. `line` says why, as `refused: line 3`; of a procedure the exception's text has the place, too."""
+    """A text was refused. `line` says why, as `refused: line 3`. The exception's text is that line, or for a procedure all that
+    bohm-check says of it: each fault's line, what is wrong, and what to write instead."""
 
     status = Status.REFUSED
     why = "the text was refused"
 
-    def __init__(self, line: str = "", place: str = "") -> None:
-        self.line = line
-        super().__init__(f"{line}: {place}" if place else line)
+    def __init__(self, report: str = "") -> None:
+        self.line = report.partition("\n")[0]
+        super().__init__(report)
 
 
 class OutOfMemoryError(BohmError, MemoryError):
@@ -128,10 +130,17 @@ class BusyError(BohmError, RuntimeError):
 
 
 class UnfitError(BohmError, ValueError):
-    """An edition, a number of arguments or the number of calls is not acceptable."""
+    """An edition, a statement, or a number of arguments or calls is not acceptable."""
 
     status = Status.UNFIT
-    why = "an edition, a number of arguments or the number of calls is not acceptable"
+    why = "an edition, a statement, or a number of arguments or calls is not acceptable"
+
+
+class UnsortedError(BohmError, ValueError):
+    """The keys of a store's rows don't rise, each above the one before it."""
+
+    status = Status.UNSORTED
+    why = "the keys are not in rising order"
 
 
 class ClosedError(BohmError, ValueError):
@@ -144,6 +153,7 @@ class ClosedError(BohmError, ValueError):
 KINDS: Tuple[Type[BohmError], ...] = (
     RefusedError, OutOfMemoryError, TrimmedError, FutureError, HasStoreError, TimestampsError, HasLogError, NoKeyError,
     WaitingError, StoppedError, KeptError, UnfitError, ClosedError,
+    UnsortedError,
 )
 BY_STATUS: Dict[Status, Type[BohmError]] = {kind.status: kind for kind in KINDS}
 
@@ -153,9 +163,9 @@ def error_for(status: int) -> BohmError:
     return BY_STATUS[Status(status)]()
 
 
-def refusal_for(line: bytes) -> RefusedError:
-    """The exception of a refusal, from the library's line."""
-    return RefusedError(line.decode().strip())
+def refusal_for(report: bytes) -> RefusedError:
+    """The exception of a refusal, from the library's line or report."""
+    return RefusedError(report.decode(errors="replace").rstrip("\n"))
 
 
 def note_on(error: BaseException, text: str) -> None:

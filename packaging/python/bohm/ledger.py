@@ -9,8 +9,9 @@ from typing import Any, Dict, Iterable, List, NoReturn, Optional, Sequence, Tupl
 from . import ledger_commit, ledger_file, ledger_recovery, ledger_state
 from .entries import ID, KEY, Refused, text_of
 from .errors import ClosedError, FutureError, NoKeyError, RefusedError, TrimmedError
+from .ledger_commit import Beside
 from .ledger_file import LedgerError, LedgerFile
-from .ledger_state import Answer, Defined, State
+from .ledger_state import Answer, Defined, State, answer_of
 from .ledger_turns import MOST, Turns
 from .library import Library, Text
 from .machine import Machine
@@ -136,10 +137,12 @@ class Ledger:
     The file is a SQLite database (`docs/ledger.md`), which other programs may read meanwhile."""
 
     def __init__(self, path: "Union[str, os.PathLike[str]]", edition: Optional[int] = None, *,
-                 checkpoint_every: int = 1_000_000, library: Optional[Library] = None) -> None:
+                 checkpoint_every: int = 1_000_000, library: Optional[Library] = None, synchronous: bool = True) -> None:
         """Opens a ledger; a new one has edition 2 if `edition` isn't given. A checkpoint is made behind so many transactions,
-        and by `close`."""
+        and by `close`. If not `synchronous`, what a call returns is durable once `sync` returns, and a crash of the machine
+        may take the last commits away: for entries that another log holds, and that can be run again."""
         self._path, self._edition, self._every, self._library = os.fspath(path), edition, checkpoint_every, library
+        self._synchronous = synchronous
         self._own, self._turns, self._is_open = threading.local(), Turns(self._store), True
         self._file: Optional[LedgerFile] = None
         self._state: Optional[State] = None
@@ -153,7 +156,7 @@ class Ledger:
         if self._file is None or self._state is None:
             if self._file:
                 self._file.close()
-            self._file = LedgerFile(self._path, self._edition)
+            self._file = LedgerFile(self._path, self._edition, self._synchronous)
             try:
                 self._state = ledger_recovery.recovered(self._file, self._library)
             except BaseException:
@@ -175,11 +178,11 @@ class Ledger:
 
     # Writing.
 
-    def _store(self, texts: Sequence[str]) -> Sequence[Answer]:
+    def _store(self, texts: Sequence[str], beside: Optional[Beside] = None) -> Sequence[Answer]:
         """Runs and stores a commit."""
         file, state = self._opened()
         try:
-            answers = ledger_commit.commit(file, state, texts)
+            answers = ledger_commit.commit(file, state, texts, beside)
         except BaseException:
             self._state = None
             raise
@@ -205,6 +208,35 @@ class Ledger:
                 error.answers = answers
                 raise
         return answers
+
+    def append_beside(self, entries: Iterable[Text], write: Beside) -> Sequence[Answer]:
+        """Runs and stores at most 4,096 entries as one commit, and in its transaction what `write` writes into tables of the
+        caller's own: it is given the connection, the answers, and the ids that are stored, with their answers. So whoever
+        reads entries from another log stores with them how far it has read."""
+        texts = [*map(text_of, entries)]
+        if len(texts) > MOST:
+            raise ValueError(f"a commit has at most {MOST} entries")
+        with self._turns.alone():
+            return self._store(texts, write)
+
+    def answer_to(self, id: str) -> Optional[Answer]:
+        """The answer to the entry with an id; none if no entry that is stored has it."""
+        with self._turns.alone():
+            found = self._opened()[0].requests([id])
+        return answer_of(found[id][1]) if id in found else None
+
+    def sync(self) -> None:
+        """Makes durable what was stored before, if the ledger isn't `synchronous`. Other threads go on meanwhile."""
+        with self._turns.alone():
+            file = self._opened()[0]
+            log = file.log_handle()
+        try:
+            with ledger_file.told(self._path):
+                os.fsync(log)
+                if not file.synchronous:
+                    ledger_file.settle_beside(file.path)
+        finally:
+            os.close(log)
 
     def call(self, name_: str, *given: Any, **named: Any) -> Any:
         """Calls a procedure; arguments are given in the order of its parameters, or by name. `id` is the entry's id: a parameter
@@ -259,7 +291,7 @@ class Ledger:
         try:
             file.checkpoint(state.top, state.changes())
             state.changed.clear()
-            state.machine.trim()
+            state.forget_past()
             if file.archivable >= ARCHIVED:
                 file.archive()
             if state.top - state.base >= ledger_state.RESTART:

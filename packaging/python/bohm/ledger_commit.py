@@ -1,10 +1,16 @@
 """A commit: entries are run, and those that are accepted are stored with the answers of their ids."""
-from typing import Dict, List, NamedTuple, Optional, Sequence, Set, Tuple
+import sqlite3
+from typing import Callable, Dict, List, NamedTuple, Optional, Sequence, Set, Tuple
 
 from . import entries
 from .entries import Entry, Refused
 from .ledger_file import LedgerFile
 from .ledger_state import Answer, State, answer_of
+
+
+# Writes rows of tables that aren't a ledger's, in the transaction of a commit: by the connection, the answers to its entries, and
+# the ids that it stores, with their answers.
+Beside = Callable[[sqlite3.Connection, Sequence[Answer], Sequence[Tuple[str, str]]], None]
 
 
 class First(NamedTuple):
@@ -14,7 +20,7 @@ class First(NamedTuple):
     answer: Answer
 
 
-def commit(file: LedgerFile, state: State, texts: Sequence[str]) -> Sequence[Answer]:
+def commit(file: LedgerFile, state: State, texts: Sequence[str], beside: Optional[Beside] = None) -> Sequence[Answer]:
     """Runs entries and stores them; their answers are those of the file from then on. After an exception the state may be
     ahead of the file."""
     first = state.top + 1
@@ -22,13 +28,23 @@ def commit(file: LedgerFile, state: State, texts: Sequence[str]) -> Sequence[Ans
     if alike and are_new(file, alike.ids):
         replies = state.run_alike(alike)
         requests = [(row[0], str(reply)) for row, reply in zip(alike.rows, replies) if row[0]] if alike.ids else []
-        file.commit(first, "".join(texts), requests)
+        file.commit(first, "".join(texts), requests, bound(beside, replies, requests))
         return replies
     under_way = Commit(file, state, texts)
     under_way.take_all()
-    if under_way.accepted:
-        file.commit(first, "".join(under_way.accepted), under_way.requests)
+    if under_way.accepted or beside:
+        more = bound(beside, under_way.answers, under_way.requests)
+        file.commit(first, "".join(under_way.accepted), under_way.requests, more)
     return under_way.answers
+
+
+def bound(beside: Optional[Beside], answers: Sequence[Answer],
+          requests: Sequence[Tuple[str, str]]) -> Optional[Callable[[sqlite3.Connection], None]]:
+    """What a commit writes beside its batch, by the connection."""
+    if beside is None:
+        return None
+    write = beside
+    return lambda connection: write(connection, answers, requests)
 
 
 def are_new(file: LedgerFile, ids: Sequence[str]) -> bool:

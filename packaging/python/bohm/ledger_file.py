@@ -6,7 +6,7 @@ import json
 import os
 import re
 import sqlite3
-from typing import Dict, Generator, Iterable, Iterator, List, NamedTuple, Optional, Sequence, Tuple
+from typing import Callable, Dict, Generator, Iterable, Iterator, List, NamedTuple, Optional, Sequence, Tuple
 from urllib.parse import quote
 
 from . import entries
@@ -23,6 +23,8 @@ KEYED_BY_TEXT = ("balance", "request")
 DEFINES = "(substr(entries, 1, 7) = 'define ' OR instr(entries, char(10) || 'define '))"
 # Seconds that a write waits for another program's.
 PATIENCE = 5.0
+# Pages that the log of a file that isn't synchronous has at most, unless a commit or a reader takes more.
+LOG_PAGES = 1 << 14
 # Batches that are kept in memory, for ids that are sent again.
 MOST_FOUND = 64
 
@@ -90,6 +92,12 @@ def reading(path: str, immutable: bool = False) -> sqlite3.Connection:
     """A connection that reads a database, beside whoever writes to it."""
     words = f"file:{quote(path)}?mode=ro{'&immutable=1' if immutable else ''}"
     return sqlite3.connect(words, uri=True, timeout=PATIENCE, isolation_level=None, check_same_thread=False)
+
+
+def settle_beside(path: str) -> None:
+    """Copies the log of a database into it and makes both durable, beside whoever writes, as far as no reader needs the log."""
+    with contextlib.closing(sqlite3.connect(path, timeout=PATIENCE, isolation_level=None)) as connection:
+        connection.execute("PRAGMA wal_checkpoint(PASSIVE)")
 
 
 class LedgerTables:
@@ -161,11 +169,12 @@ def snapshot(path: str) -> Iterator[LedgerTables]:
 class LedgerFile(LedgerTables):
     """An open file of a ledger. One thread at a time calls it."""
 
-    def __init__(self, path: str, edition: Optional[int]) -> None:
+    def __init__(self, path: str, edition: Optional[int], synchronous: bool = True) -> None:
         if sqlite3.sqlite_version_info < (3, 37):
             raise LedgerError(f"a ledger needs SQLite 3.37 or newer, and this is {sqlite3.sqlite_version}")
         path = os.path.realpath(path)
         self.lock: Optional[int] = None
+        self.synchronous = synchronous
         # Batches that were looked up, by place.
         self.found: Dict[int, Optional[str]] = {}
         is_new = not os.path.exists(path)
@@ -187,7 +196,10 @@ class LedgerFile(LedgerTables):
             self.check()
         if self.connection.execute("PRAGMA journal_mode = WAL").fetchone()[0] != "wal":
             raise LedgerError(f"{self.path}: SQLite can't keep a log of it")
-        self.connection.execute("PRAGMA synchronous = FULL")
+        self.connection.execute(f"PRAGMA synchronous = {'FULL' if self.synchronous else 'NORMAL'}")
+        if not self.synchronous:
+            # `settle_beside` copies it before, where no commit waits for the disk.
+            self.connection.execute(f"PRAGMA wal_autocheckpoint = {LOG_PAGES}")
         self.lock = self.locked()
         self.connection.execute(f"PRAGMA busy_timeout = {int(PATIENCE * 1000)}")
         with self.transaction():
@@ -255,15 +267,19 @@ class LedgerFile(LedgerTables):
                 self.connection.execute("ROLLBACK")
             raise
 
-    def commit(self, first: int, text: str, requests: Sequence[Tuple[str, str]]) -> None:
-        """Stores a batch, with the ids of its entries and their answers. Where another program has stored one in its place,
-        nothing is stored."""
-        place = self.place + 1
+    def commit(self, first: int, text: str, requests: Sequence[Tuple[str, str]],
+               more: Optional[Callable[[sqlite3.Connection], None]] = None) -> None:
+        """Stores a batch, unless it is empty, with the ids of its entries and their answers, and what `more` writes. Where
+        another program has stored a batch in its place, nothing is stored."""
+        place = self.place + 1 if text else self.place
         with told(self.path), self.transaction():
-            self.connection.execute("INSERT INTO batch VALUES (?, ?, ?)", (place, first, text))
+            if text:
+                self.connection.execute("INSERT INTO batch VALUES (?, ?, ?)", (place, first, text))
             if requests:
                 rows = sorted((name, place, answer) for name, answer in requests)
                 self.connection.executemany("INSERT INTO request VALUES (?, ?, ?)", rows)
+            if more:
+                more(self.connection)
         self.place = place
         self.archivable += len(text)
 
@@ -356,6 +372,11 @@ class LedgerFile(LedgerTables):
                 os.remove(path)
         sync(os.path.dirname(self.path))
         self.found.clear()
+
+    def log_handle(self) -> int:
+        """A handle of the database's log, whose synchronisation makes all commits durable. The caller closes it."""
+        assert self.lock is not None
+        return os.dup(self.lock)
 
     def close(self) -> None:
         """Closes the file, and lets other ledgers have it. Does nothing if it is closed."""

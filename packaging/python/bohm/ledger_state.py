@@ -1,11 +1,11 @@
 """What a ledger holds in memory: the machine that has run its entries, and its procedures."""
-import itertools
 from array import array
 from typing import Collection, Dict, Iterable, Iterator, List, NamedTuple, Optional, Sequence, Set, Tuple, Union
 
 from . import entries
 from .entries import Call, Definition, Entry, Form, Refused, Transaction
-from .errors import RefusedError
+from .errors import NoKeyError, RefusedError, UnsortedError
+from .ledger_file import DamagedError
 from .library import Library
 from .machine import Machine, answer
 from .procedures import Procedure
@@ -17,6 +17,8 @@ LONGEST_TEXT = 1 << 25
 RESTART = 1 << 31
 # The most keys whose handles are kept; a commit may bring more.
 MOST_HANDLES = 1 << 18
+# A machine is compacted where it holds so many names more than twice those of its last compaction.
+SPARE = 1 << 16
 
 
 class Defined(NamedTuple):
@@ -67,13 +69,24 @@ class State:
         # The sequence number of the last transaction, and of the machine's timestamp 0.
         self.top = sequence
         self.machine, self.base = opened(sequence, store, library)
+        # The names that the machine held when each of them had a value.
+        self.named = self.machine.counts().names
 
     def restart(self, store: Iterable[Tuple[str, int]]) -> None:
         """Replaces the machine by one on the present store."""
         machine, self.base = opened(self.top, store, self.library)
+        self.named = machine.counts().names
         self.handles.clear()
         self.procedures = {name: Prepared(form, machine.prepare(form.text)) for name, (form, _) in self.procedures.items()}
         self.machine = machine
+
+    def forget_past(self) -> None:
+        """Drops the past and, where there may be many, the names of keys without a value."""
+        if self.machine.counts().names > 2 * self.named + SPARE:
+            self.machine.compact()
+            self.named = self.machine.counts().names
+        else:
+            self.machine.trim()
 
     def changes(self) -> Iterator[Tuple[str, Optional[int]]]:
         """The keys that may have changed since the last checkpoint, with their values."""
@@ -126,7 +139,7 @@ class State:
     def run_columns(self, prepared: Prepared, columns: Sequence[Tuple[str, ...]]) -> Sequence[Reply]:
         """Runs calls whose arguments are in columns, keys by their handles."""
         form, procedure = prepared
-        keys = [array("I", map(self.handle_of, column)) for column in columns[:len(form.keys)]]
+        keys = [array("I", self.handles_of(column)) for column in columns[:len(form.keys)]]
         values = [array("q", map(int, column)) for column in columns[len(form.keys):]]
         replies = self.machine.run_many(procedure, *keys, *values)
         self.top += len(replies)
@@ -134,12 +147,11 @@ class State:
             self.changed.update(columns[place] if place < form.count else (form.fixed[place - form.count],))
         return replies
 
-    def handle_of(self, key: str) -> int:
-        """A key's handle on the machine, which is looked up once."""
-        handle = self.handles.get(key)
-        if handle is None:
-            handle = self.handles[key] = self.machine.key(key).handle
-        return handle
+    def handles_of(self, keys: Sequence[str]) -> Iterator[int]:
+        """Keys' handles on the machine, each of which is looked up once."""
+        for key in {*keys}.difference(self.handles):
+            self.handles[key] = self.machine.key(key).handle
+        return map(self.handles.__getitem__, keys)
 
     def instance(self, call: Call) -> Union[str, Refused]:
         """The transaction that a call stands for."""
@@ -232,23 +244,8 @@ def pieces(texts: Sequence[str]) -> Iterator[List[str]]:
 def opened(sequence: int, store: Iterable[Tuple[str, int]], library: Optional[Library]) -> Tuple[Machine, int]:
     """A machine on a store of any size, its keys rising, after the transaction with a sequence number; and the number of the
     machine's timestamp 0."""
-    rest = iter(store)
-    lines: List[str] = []
-    size = 0
-    for key, value in rest:
-        lines.append(f"{key} {value}\n")
-        size += len(lines[-1])
-        if size > LONGEST_TEXT:
-            break
-    machine = Machine("log 1\n" + "".join(lines), sequence if sequence < RESTART else 0, library=library)
-    # A machine reads a store's text up to a limit: the other keys are set by transactions.
-    while part := list(itertools.islice(rest, 16 * 65_536)):
-        machine.apply("log 1\n" + "".join(setting(part[at:at + 16]) for at in range(0, len(part), 16)))
-    machine.trim()
-    return machine, sequence - machine.top
-
-
-def setting(cells: Sequence[Tuple[str, int]]) -> str:
-    """A transaction that sets at most 16 keys, which rise."""
-    lines = [f"set {key} = {entries.sum_of(str(value))}\n" for key, value in cells]
-    return f"txn\nreads\nwrites {' '.join(key for key, _ in cells)}\n{''.join(lines)}end\n"
+    top = sequence if sequence < RESTART else 0
+    try:
+        return Machine.open_rows(store, top, library=library), sequence - top
+    except (NoKeyError, UnsortedError) as error:
+        raise DamagedError(f"the file's balances: {error}") from None

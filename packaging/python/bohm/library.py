@@ -6,7 +6,8 @@ from typing import Optional, Union
 
 from ._core import Table
 
-Text = Union[str, bytes, bytearray, memoryview]
+Buffer = Union[bytes, bytearray, memoryview]
+Text = Union[str, Buffer]
 
 # The shared object's name, which changes with the interface that programs rely on.
 SHARED = "libbohm.so.1"
@@ -14,12 +15,12 @@ SHARED = "libbohm.so.1"
 # The number of that interface.
 ABI = 1
 FUNCTIONS = (
-    "bohm_answer", "bohm_open", "bohm_apply_held", "bohm_rows", "bohm_value_at", "bohm_store_at", "bohm_digest", "bohm_trim",
-    "bohm_timestamps", "bohm_counts", "bohm_close", "bohm_prepare", "bohm_close_procedure", "bohm_open_calls_for", "bohm_push",
-    "bohm_key_handle", "bohm_push_named", "bohm_run_calls_held", "bohm_clear_calls", "bohm_close_calls", "bohm_free",
+    "bohm_answer", "bohm_open", "bohm_open_rows", "bohm_apply_held", "bohm_rows", "bohm_value_at", "bohm_store_at",
+    "bohm_store_rows", "bohm_digest", "bohm_trim", "bohm_compact", "bohm_timestamps", "bohm_counts_sized", "bohm_close",
+    "bohm_prepare_report", "bohm_statement_text", "bohm_close_procedure", "bohm_open_calls_for", "bohm_push",
+    "bohm_key_handle", "bohm_push_named", "bohm_run_calls_held", "bohm_calls_text", "bohm_clear_calls", "bohm_close_calls",
+    "bohm_call", "bohm_machine_key", "bohm_call_named", "bohm_free",
 )
-# Functions that an older library doesn't have.
-NEWER = ("bohm_call", "bohm_call_named", "bohm_machine_key")
 
 
 def octets(text: Text) -> bytes:
@@ -40,7 +41,7 @@ class Library:
         self.path = os.path.abspath(path) if path else beside if os.path.exists(beside) else SHARED
         self._loaded = ctypes.CDLL(self.path)
         self._check_interface()
-        self._table = Table({name: self._address(name) for name in FUNCTIONS + NEWER})
+        self._table = Table({name: self._address(name) for name in FUNCTIONS})
 
     def _check_interface(self) -> None:
         """Refuses a library with another interface, whose calls would read other arguments."""
@@ -49,9 +50,11 @@ class Library:
             raise OSError(f"{self.path} has the interface {number()}, and this package needs {ABI}")
 
     def _address(self, name: str) -> int:
-        """A function's address; 0 if it is a newer one that the library doesn't have."""
-        function = getattr(self._loaded, name, None) if name in NEWER else getattr(self._loaded, name)
-        return ctypes.cast(function, ctypes.c_void_p).value or 0 if function else 0
+        function = getattr(self._loaded, name, None)
+        address = ctypes.cast(function, ctypes.c_void_p).value if function else None
+        if not address:
+            raise OSError(f"{self.path} is older than this package: it has no {name}")
+        return address
 
     def _word(self, name: str) -> str:
         return ctypes.string_at(ctypes.addressof(ctypes.c_char.in_dll(self._loaded, name))).decode()

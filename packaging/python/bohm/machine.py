@@ -1,13 +1,14 @@
 """Machines: stores with their past, to which segments and calls are applied."""
 from array import array
-from typing import Any, Dict, Iterator, List, NamedTuple, NoReturn, Optional, Tuple, Union
+from typing import Any, Dict, Iterable, Iterator, List, NamedTuple, NoReturn, Optional, Tuple, Union, cast
 
 from . import _core
-from ._core import Key
+from ._core import Call, Key
 from .errors import NoKeyError
-from .library import Library, Text, drawn_seed, load, octets
+from .library import Buffer, Library, Text, drawn_seed, load, octets
 from .procedures import Procedure
-from .replies import Answer, ReplySequence, answer_of, store_of
+from .replies import Answer, ReplySequence, answer_of
+from .stores import ROW, Pairs, packed, unpacked
 
 
 class Replies(_core.Rows, ReplySequence):
@@ -19,14 +20,27 @@ class Replies(_core.Rows, ReplySequence):
 _core.use_replies(Replies)
 
 
+# The most calls whose text is made at once.
+MANY = 4096
+
+
 class Counts(NamedTuple):
-    """The least and the greatest timestamp that can be read, how many versions are kept, and how many replies no call has
-    returned."""
+    """What a machine holds."""
 
     floor: int
+    """The least timestamp that can be read."""
     top: int
+    """The greatest one, that of the last transaction."""
     versions: int
+    """How many versions are kept."""
     waiting: int
+    """How many replies no call has returned."""
+    names: int
+    """How many keys take memory, also without a value: `compact` leaves those with one."""
+    bytes: int
+    """About how many bytes the versions and the names take."""
+    left: int
+    """How many transactions can still run, before timestamps end at 4294967295."""
 
 
 def answer(log: Text, *, library: Optional[Library] = None) -> Answer:
@@ -37,7 +51,7 @@ def answer(log: Text, *, library: Optional[Library] = None) -> Answer:
 class Machine(_core.Machine):
     """A store with its past, from a floor up to a top, which are timestamps.
 
-        with bohm.Machine("log 1\\nalice 100\\nbob 20\\n") as machine:
+        with bohm.Machine("log 2\\nalice 100\\nbob 20\\n") as machine:
             transfer = machine.prepare(text)
             reply = transfer(from_="alice", to="bob", amount=30)
             print(machine["bob"], "carol" in machine, len(machine), list(machine))
@@ -51,9 +65,24 @@ class Machine(_core.Machine):
     of what has run."""
 
     def __init__(self, snapshot: Text = b"log 1\n", top: int = 0, *, library: Optional[Library] = None) -> None:
-        """Opens a snapshot: the store after the transaction with the timestamp `top`."""
+        """Opens a snapshot: the store after the transaction with the timestamp `top`, as text of at most 64 MiB. `open_rows`
+        opens larger ones."""
         self.library = library or load()
         super().__init__(self.library._table, drawn_seed(), octets(snapshot), top)
+
+    @classmethod
+    def open_rows(cls, rows: "Union[Buffer, Pairs]", top: int = 0, *, library: Optional[Library] = None) -> "Machine":
+        """Opens a store of any size, as it is after the transaction with the timestamp `top`: what `store_rows` returned, a
+        mapping, or pairs of keys and values in rising order of the keys. Raises UnsortedError."""
+        machine = cls.__new__(cls)
+        machine.library = library or load()
+        store: Buffer
+        try:
+            store = memoryview(cast(bytes, rows))
+        except TypeError:
+            store = packed(cast(Pairs, rows))
+        _core.Machine.__init__(machine, machine.library._table, drawn_seed(), store, top, True)
+        return machine
 
     def prepare(self, text: Text) -> Procedure:
         """Reads and checks a procedure, to be called on this machine. A `str` may be indented and begin with newlines, as
@@ -64,6 +93,15 @@ class Machine(_core.Machine):
         """Looks up a key. The result replaces its name in calls on this machine, and its `handle` in columns of `run_many`;
         a key that is used again and again is then looked up once."""
         return Key(self, name)
+
+    def calls_text(self, calls: Iterable[Call]) -> bytes:
+        """The log of calls of one edition, as a segment that `apply` would run with the same replies. Written to a disk it is
+        what `bohm` and other programs can check."""
+        wanted = tuple(calls)
+        parts = [self._calls_text(wanted[at:at + MANY]) for at in range(0, len(wanted), MANY)] or [b"log 2\n"]
+        if len({part[:6] for part in parts}) > 1:
+            raise ValueError("the calls are of two editions")
+        return b"".join([parts[0], *(part[6:] for part in parts[1:])])
 
     def run_many(self, procedure: Procedure, *columns: Any) -> "Replies":
         """Runs a call for each row of columns, one for each parameter: buffers, such as arrays of `array` or NumPy, of keys'
@@ -97,10 +135,10 @@ class Machine(_core.Machine):
 
     def store_at(self, ts: Optional[int] = None) -> Dict[str, int]:
         """Each key's value after the transaction with timestamp `ts`, or at the top, in key order."""
-        return store_of(self.snapshot(ts).decode().splitlines()[1:])
+        return unpacked(self.store_rows(ts))
 
     def counts(self) -> Counts:
-        """Counts versions and waiting replies. Its time grows with the number of keys."""
+        """What the machine holds."""
         return Counts(*self._counts())
 
     def get(self, key: Union[Text, Key], default: Any = None) -> Any:
@@ -123,7 +161,7 @@ class Machine(_core.Machine):
         return iter(self.keys())
 
     def __len__(self) -> int:
-        return self.snapshot().count(b"\n") - 1
+        return len(self.store_rows()) // ROW.size
 
     def __bool__(self) -> bool:
         """A machine is true even if its store is empty."""

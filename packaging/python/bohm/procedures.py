@@ -1,10 +1,9 @@
 """Procedures: transactions with parameters, called like Python functions."""
 import keyword
 import textwrap
-from typing import TYPE_CHECKING, Any, List, Mapping, NoReturn, Optional, Tuple
+from typing import TYPE_CHECKING, Any, List, Mapping, NamedTuple, NoReturn, Optional, Tuple
 
 from . import _core
-from .errors import RefusedError
 from .library import Text, octets
 
 if TYPE_CHECKING:
@@ -27,26 +26,14 @@ def _named(lines: List[List[str]], kind: str) -> Tuple[str, ...]:
     return tuple(words[1] for words in lines[1:head] if words[0] == kind)
 
 
-def _statements(text: str) -> List[str]:
-    """The statements as replies count them: each value's `let`, then the lines between `writes` and `end`."""
-    lines = text.splitlines()
-    body = next(at for at, line in enumerate(lines) if line.split(" ")[0] == "writes") + 1
-    words = [line.split(" ") for line in lines[:body - 2]]
-    return [*(f"let ${each[1]}" for each in words if each[0] == "value"), *lines[body:-1]]
+class Statement(NamedTuple):
+    """A statement of a procedure: the number of its line in the procedure's text, and that line. As a `str` it is the line."""
 
+    line: int
+    text: str
 
-def _place_of(refusal: str, text: str) -> str:
-    """The line of a procedure's text that a refusal is about, if it is about one."""
-    lines = text.splitlines()
-    words = refusal.split(" ")
-    if words[1] == "line" and int(words[2]) <= len(lines):
-        return lines[int(words[2]) - 1]
-    if words[1] == "check" and words[4] != "0":
-        return _statements(text)[int(words[4]) - 1]
-    if words[1:3] == ["check", "order"]:
-        sets = (line.split(" ")[1:] for line in lines if line.split(" ")[0] in ("reads", "writes"))
-        return next((" ".join(names) for names in sets if names != sorted(set(names))), "") + ": the names of a set rise"
-    return ""
+    def __str__(self) -> str:
+        return self.text
 
 
 class Procedure(_core.Procedure):
@@ -61,10 +48,7 @@ class Procedure(_core.Procedure):
 
     def __init__(self, machine: "Machine", text: Text) -> None:
         given = _exact(text)
-        try:
-            self._prepare(machine, given)
-        except RefusedError as refusal:
-            raise RefusedError(refusal.line, _place_of(refusal.line, given.decode(errors="replace"))) from None
+        self._prepare(machine, given)
         self.text = given.decode()
         lines = [line.split(" ") for line in self.text.splitlines()]
         keys, values = _named(lines, "key"), _named(lines, "value")
@@ -77,14 +61,15 @@ class Procedure(_core.Procedure):
         """The parameters' names: keys, then values."""
         return self.keys + self.values
 
-    def statement(self, number: int) -> str:
-        """The text of the statement with a number as replies have it: the values' `let`s count first.
+    def statement(self, number: int) -> Statement:
+        """The statement with a number as replies have it, from 1 on: the values' bindings count first, and their lines are
+        those of the values.
 
             print(f"{reply}: {transfer.statement(reply.statement)}")    # 7 abort need 3: need from >= $amount"""
-        statements = _statements(self.text)
-        if not 1 <= number <= len(statements):
+        found = self._statement(number) if 0 < number < 1 << 32 else None
+        if not found:
             raise IndexError(f"the procedure has no statement {number}")
-        return statements[number - 1]
+        return Statement(*found)
 
     def _arguments(self, given: Tuple[Any, ...], named: Optional[Mapping[str, Any]]) -> List[Any]:
         """An argument for each parameter, in their order."""

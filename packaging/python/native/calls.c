@@ -124,11 +124,11 @@ uint32_t run_directly(procedure_object *procedure, const key_argument *keys, con
     bohm_key names[MOST_KEYS];
     if (!are_known(procedure, keys)) {
         names_of(procedure, keys, names);
-        return table->call(machine, &procedure->procedure, names, key_count, values, value_count, row, shown, MOST_SHOWN);
+        return table->call(machine, &procedure->procedure, names, key_count, values, value_count, row, shown, BOHM_MOST_SHOWN);
     }
     uint32_t status = handles_of(procedure, 0, keys, handles);
     if (status) return status;
-    return table->call_named(machine, &procedure->procedure, handles, key_count, values, value_count, row, shown, MOST_SHOWN);
+    return table->call_named(machine, &procedure->procedure, handles, key_count, values, value_count, row, shown, BOHM_MOST_SHOWN);
 }
 
 /* --- a call --- */
@@ -235,20 +235,37 @@ static PyObject *procedure_prepare(PyObject *self, PyObject *args) {
     if (procedure->machine) return PyErr_Format(PyExc_TypeError, "a procedure doesn't change");
     if (!PyArg_ParseTuple(args, "O!y*", machine_type, &machine, &text)) return NULL;
     machine_object *of = (machine_object *)machine;
-    bohm_bytes line = BOHM_NO_BYTES;
+    bohm_bytes report = BOHM_NO_BYTES;
     uint32_t status = 0;
     int begun = begin_reading(of);
     if (!begun) {
-        status = of->table->prepare(&procedure->procedure, of->seed, text.buf, (size_t)text.len, &line);
+        status = of->table->prepare_report(&procedure->procedure, of->seed, text.buf, (size_t)text.len, &report);
         end_reading(of);
     }
     PyBuffer_Release(&text);
     if (begun < 0) return NULL;
-    if (status == BOHM_REFUSED) return raise_refusal(of->table, &line);
+    if (status == BOHM_REFUSED) return raise_refusal(of->table, &report);
     if (status) return raise_status(status);
     Py_INCREF(machine);
     procedure->machine = of;
     Py_RETURN_NONE;
+}
+
+/* The line and the text of a statement, or None if there is none with this number. */
+static PyObject *procedure_statement(PyObject *self, PyObject *args) {
+    procedure_object *procedure = (procedure_object *)self;
+    unsigned int number;
+    if (!PyArg_ParseTuple(args, "I", &number)) return NULL;
+    if (!procedure->procedure.at) return PyErr_Format(closed_error, "the procedure is closed");
+    size_t line;
+    bohm_bytes text = BOHM_NO_BYTES;
+    /* It is read with the interpreter's lock held, under which alone it is closed. */
+    uint32_t status = procedure->machine->table->statement_text(&procedure->procedure, number, &line, &text);
+    if (status == BOHM_UNFIT) Py_RETURN_NONE;
+    if (status) return raise_status(status);
+    PyObject *found = Py_BuildValue("ns#", (Py_ssize_t)line, (const char *)text.at, (Py_ssize_t)text.len);
+    procedure->machine->table->free(text.at);
+    return found;
 }
 
 static PyObject *procedure_describe(PyObject *self, PyObject *args) {
@@ -316,6 +333,7 @@ static PyMemberDef procedure_members[] = {
 static PyGetSetDef procedure_getters[] = {{"closed", procedure_is_closed, NULL, "Whether it is closed.", NULL}, {0}};
 static PyMethodDef procedure_methods[] = {
     {"_prepare", procedure_prepare, METH_VARARGS, "Reads and checks a text."},
+    {"_statement", procedure_statement, METH_VARARGS, "The line and the text of a statement."},
     {"_describe", procedure_describe, METH_VARARGS, "Sets edition and parameters."},
     {"call", (PyCFunction)(void (*)(void))procedure_call, METH_VARARGS | METH_KEYWORDS, "A call with these arguments."},
     {"close", procedure_close, METH_NOARGS, "Frees the procedure. Does nothing if it is closed."},

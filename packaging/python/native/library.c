@@ -6,7 +6,7 @@
 static const struct {
     const char *name;
     size_t offset;
-} places[] = {FUNCTIONS(NAMED) NEWER_FUNCTIONS(NAMED)};
+} places[] = {FUNCTIONS(NAMED)};
 
 static int table_init(PyObject *self, PyObject *args, PyObject *named) {
     PyObject *addresses;

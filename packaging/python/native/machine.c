@@ -42,31 +42,65 @@ static int timestamp_of(machine_object *machine, PyObject *given, uint32_t *ts) 
     return PyErr_Occurred() ? -1 : 0;
 }
 
+/* Sets *rows to those in a buffer. Where they aren't aligned it is a copy, and *copy too. -1 with an exception set. */
+static int align_rows(const Py_buffer *given, const bohm_entry **rows, bohm_entry **copy) {
+    size_t len = (size_t)given->len;
+    *rows = given->buf;
+    *copy = NULL;
+    if (len % sizeof **rows) return PyErr_SetString(PyExc_ValueError, "the rows of a store have 40 bytes each"), -1;
+    if (!len || !((uintptr_t)given->buf % _Alignof(bohm_entry))) return 0;
+    *copy = PyMem_Malloc(len);
+    if (!*copy) return PyErr_NoMemory(), -1;
+    *rows = memcpy(*copy, given->buf, len);
+    return 0;
+}
+
+/* Opens a machine on rows. -1 with an exception set. */
+static int open_rows(machine_object *machine, const Py_buffer *given, uint32_t top) {
+    const bohm_entry *rows;
+    bohm_entry *copy;
+    uint32_t status;
+    if (align_rows(given, &rows, &copy) < 0) return -1;
+    Py_BEGIN_ALLOW_THREADS
+    status = machine->table->open_rows(&machine->machine, machine->seed, rows, (size_t)given->len / sizeof *rows, top);
+    Py_END_ALLOW_THREADS
+    PyMem_Free(copy);
+    return status ? (raise_status(status), -1) : 0;
+}
+
+/* Opens a machine on a snapshot. -1 with an exception set. */
+static int open_text(machine_object *machine, const Py_buffer *text, uint32_t top) {
+    bohm_bytes line = BOHM_NO_BYTES;
+    uint32_t status;
+    Py_BEGIN_ALLOW_THREADS
+    status = machine->table->open(&machine->machine, machine->seed, text->buf, (size_t)text->len, top, &line);
+    Py_END_ALLOW_THREADS
+    if (status == BOHM_REFUSED) return raise_refusal(machine->table, &line), -1;
+    return status ? (raise_status(status), -1) : 0;
+}
+
 static int machine_init(PyObject *self, PyObject *args, PyObject *named) {
     machine_object *machine = (machine_object *)self;
-    static char *words[] = {"table", "seed", "snapshot", "top", NULL};
+    static char *words[] = {"table", "seed", "store", "top", "is_rows", NULL};
     PyObject *table, *top;
     const char *seed;
     Py_ssize_t seed_len;
-    Py_buffer text;
+    Py_buffer store;
+    uint32_t ts = 0;
+    int is_rows = 0, status = -1;
     if (machine->table) return PyErr_SetString(PyExc_TypeError, "a machine is opened once"), -1;
-    if (!PyArg_ParseTupleAndKeywords(args, named, "O!y#y*O", words, table_type, &table, &seed, &seed_len, &text, &top)) return -1;
-    uint32_t ts = 0, status = 0;
-    int good = seed_len == sizeof machine->seed && !timestamp_of(machine, top, &ts);
-    bohm_bytes line = BOHM_NO_BYTES;
-    if (good) {
+    if (!PyArg_ParseTupleAndKeywords(args, named, "O!y#y*O|p", words, table_type, &table, &seed, &seed_len, &store, &top, &is_rows))
+        return -1;
+    if (seed_len != sizeof machine->seed) PyErr_SetString(PyExc_ValueError, "a seed has 16 bytes");
+    else if (!timestamp_of(machine, top, &ts)) {
         Py_INCREF(table);
         machine->table = (table_object *)table;
         memcpy(machine->seed, seed, sizeof machine->seed);
-        Py_BEGIN_ALLOW_THREADS
-        status = machine->table->open(&machine->machine, machine->seed, text.buf, (size_t)text.len, ts, &line);
-        Py_END_ALLOW_THREADS
+        machine->floor = machine->top = ts;
+        status = is_rows ? open_rows(machine, &store, ts) : open_text(machine, &store, ts);
     }
-    PyBuffer_Release(&text);
-    if (!good) return PyErr_Occurred() ? -1 : (PyErr_SetString(PyExc_ValueError, "a seed has 16 bytes"), -1);
-    if (status == BOHM_REFUSED) return raise_refusal(machine->table, &line), -1;
-    if (status) return raise_status(status), -1;
-    machine->floor = machine->top = ts;
+    PyBuffer_Release(&store);
+    if (status < 0) return -1;
     machine->indices = PyDict_New();
     return machine->indices ? 0 : -1;
 }
@@ -191,6 +225,24 @@ static PyObject *machine_snapshot(PyObject *self, PyObject *args, PyObject *name
     return text;
 }
 
+static PyObject *machine_store_rows(PyObject *self, PyObject *args, PyObject *named) {
+    machine_object *machine = (machine_object *)self;
+    static char *words[] = {"ts", NULL};
+    PyObject *given = NULL;
+    uint32_t ts, status;
+    bohm_entries out = BOHM_NO_ENTRIES;
+    if (!PyArg_ParseTupleAndKeywords(args, named, "|O", words, &given) || begin_reading(machine) < 0) return NULL;
+    if (timestamp_of(machine, given, &ts) < 0) return end_reading(machine), NULL;
+    Py_BEGIN_ALLOW_THREADS
+    status = machine->table->store_rows(&machine->machine, ts, &out);
+    Py_END_ALLOW_THREADS
+    end_reading(machine);
+    if (status) return raise_status(status);
+    PyObject *rows = PyBytes_FromStringAndSize((const char *)out.at, (Py_ssize_t)(out.len * sizeof *out.at));
+    machine->table->free(out.at);
+    return rows;
+}
+
 static PyObject *machine_digest(PyObject *self, PyObject *args, PyObject *named) {
     machine_object *machine = (machine_object *)self;
     static char *words[] = {"ts", NULL};
@@ -222,23 +274,20 @@ static PyObject *machine_trim(PyObject *self, PyObject *args, PyObject *named) {
     Py_RETURN_NONE;
 }
 
-/* The library fills what it knows of: an older one leaves the rest. */
 static PyObject *machine_counts(PyObject *self, PyObject *nothing) {
     machine_object *machine = (machine_object *)self;
-    union {
-        bohm_machine_counts known;
-        uint64_t room[16];
-    } counts = {.room = {0}};
+    bohm_machine_counts counts = {0};
     (void)nothing;
     if (begin_reading(machine) < 0) return NULL;
     Py_BEGIN_ALLOW_THREADS
-    machine->table->counts(&machine->machine, &counts.known);
+    machine->table->counts_sized(&machine->machine, &counts, sizeof counts);
     Py_END_ALLOW_THREADS
     end_reading(machine);
-    size_t waiting = machine->has_lone;
+    size_t waiting = (size_t)machine->has_lone;
     for (replies_object *each = machine->pending; each; each = each->older) waiting += each->len;
-    return Py_BuildValue("(kkKK)", (unsigned long)counts.known.floor, (unsigned long)counts.known.top,
-                         (unsigned long long)counts.known.versions, (unsigned long long)(counts.known.waiting + waiting));
+    return Py_BuildValue("(kkKKKKk)", (unsigned long)counts.floor, (unsigned long)counts.top, (unsigned long long)counts.versions,
+                         (unsigned long long)(counts.waiting + waiting), (unsigned long long)counts.names,
+                         (unsigned long long)counts.bytes, (unsigned long)counts.left);
 }
 
 static PyObject *machine_is_closed(PyObject *self, void *nothing) {
@@ -248,6 +297,8 @@ static PyObject *machine_is_closed(PyObject *self, void *nothing) {
 
 static PyObject *apply_method(PyObject *self, PyObject *segment) { return machine_apply((machine_object *)self, segment); }
 static PyObject *run_method(PyObject *self, PyObject *calls) { return machine_run((machine_object *)self, calls); }
+static PyObject *calls_text_method(PyObject *self, PyObject *calls) { return machine_calls_text((machine_object *)self, calls); }
+static PyObject *compact_method(PyObject *self, PyObject *none) { return machine_compact((machine_object *)self, none); }
 static PyObject *columns_method(PyObject *self, PyObject *args) { return machine_run_columns((machine_object *)self, args); }
 static PyObject *replies_method(PyObject *self, PyObject *none) { return machine_replies((machine_object *)self, none); }
 
@@ -256,13 +307,16 @@ static PyObject *replies_method(PyObject *self, PyObject *none) { return machine
 static PyMethodDef methods[] = {
     {"apply", apply_method, METH_O, "Runs a segment."},
     {"run", run_method, METH_O, "Runs calls."},
+    {"_calls_text", calls_text_method, METH_O, "The log that calls of one edition are, of which a batch has room."},
     {"_run_columns", columns_method, METH_VARARGS, "Runs a procedure on columns of arguments."},
     {"replies", replies_method, METH_NOARGS, "The replies that no call has returned."},
     {"value_at", WITH_WORDS(machine_value_at), "A key's value at a timestamp, or at the top."},
     {"snapshot", WITH_WORDS(machine_snapshot), "The snapshot at a timestamp, or at the top."},
+    {"store_rows", WITH_WORDS(machine_store_rows), "The rows of the store at a timestamp, or at the top."},
     {"digest", WITH_WORDS(machine_digest), "The digest of the store at a timestamp, or at the top."},
     {"trim", WITH_WORDS(machine_trim), "Drops the past below a timestamp, or all of it."},
-    {"_counts", machine_counts, METH_NOARGS, "Floor, top, versions, waiting replies."},
+    {"compact", compact_method, METH_NOARGS, "Drops the past, and gives back the memory of keys without a value."},
+    {"_counts", machine_counts, METH_NOARGS, "Floor, top, versions, waiting replies, names, bytes, timestamps left."},
     {"close", machine_close, METH_NOARGS, "Frees the machine. Does nothing if it is closed."},
     {0}};
 

@@ -19,9 +19,9 @@ PyObject *raise_status(uint32_t status) {
     return raise_made(PyObject_CallFunction(error_for, "k", (unsigned long)status));
 }
 
-PyObject *raise_refusal(table_object *table, bohm_bytes *line) {
-    PyObject *error = PyObject_CallFunction(refusal_for, "y#", line->at ? (const char *)line->at : "", (Py_ssize_t)line->len);
-    table->free(line->at);
+PyObject *raise_refusal(table_object *table, bohm_bytes *report) {
+    PyObject *error = PyObject_CallFunction(refusal_for, "y#", report->at ? (const char *)report->at : "", (Py_ssize_t)report->len);
+    table->free(report->at);
     return raise_made(error);
 }
 

@@ -42,7 +42,6 @@ void PyBuffer_Release(Py_buffer *view);
 #define FAR_BACK 4096
 #define MOST_KEYS 32
 #define MOST_VALUES 64
-#define MOST_SHOWN 16
 #define LAST_TIMESTAMP 4294967295u
 
 /* --- turns.c: who is using a machine --- */
@@ -67,28 +66,18 @@ void pass_turn(turn *turn);
 /* --- library.c: the functions of a loaded library --- */
 
 #define FUNCTIONS(each) \
-    each(answer) each(open) each(apply_held) each(rows) each(value_at) each(store_at) each(digest) each(trim) \
-    each(timestamps) each(counts) each(close) each(prepare) each(close_procedure) each(open_calls_for) each(push) each(key_handle) \
-    each(push_named) each(run_calls_held) each(clear_calls) each(close_calls) each(free)
-
-/* Functions that an older library doesn't have: null there. */
-#define NEWER_FUNCTIONS(each) each(call) each(call_named) each(machine_key)
-typedef uint32_t call_function(bohm_machine *machine, const bohm_procedure *procedure, const bohm_key *keys, size_t key_count,
-                               const int64_t *values, size_t value_count, bohm_reply *row, int64_t *shown, size_t room);
-typedef uint32_t call_named_function(bohm_machine *machine, const bohm_procedure *procedure, const uint32_t *handles,
-                                     size_t handle_count, const int64_t *values, size_t value_count, bohm_reply *row,
-                                     int64_t *shown, size_t room);
-typedef uint32_t machine_key_function(bohm_machine *machine, const uint8_t *key, size_t len, uint32_t *handle);
+    each(answer) each(open) each(open_rows) each(apply_held) each(rows) each(value_at) each(store_at) each(store_rows) \
+    each(digest) each(trim) each(compact) each(timestamps) each(counts_sized) each(close) each(prepare_report) \
+    each(statement_text) each(close_procedure) \
+    each(open_calls_for) each(push) each(key_handle) each(push_named) each(run_calls_held) each(calls_text) each(clear_calls) \
+    each(close_calls) each(call) each(machine_key) each(call_named) each(free)
 
 #define DECLARED(name) __typeof__(&bohm_##name) name;
-#define DECLARED_HERE(name) name##_function *name;
 typedef struct {
     PyObject_HEAD
     FUNCTIONS(DECLARED)
-    NEWER_FUNCTIONS(DECLARED_HERE)
 } table_object;
 #undef DECLARED
-#undef DECLARED_HERE
 
 /* --- replies.c --- */
 
@@ -202,7 +191,7 @@ struct machine_object {
     uint32_t held_behind, lone_behind;
     int has_lone; /* whether the reply of a single call couldn't be returned: it is `lone`, the next after `lone_behind` */
     bohm_reply lone;
-    int64_t lone_values[MOST_SHOWN];
+    int64_t lone_values[BOHM_MOST_SHOWN];
     replies_object *pending; /* the replies that no call has returned, the newest first */
 };
 
@@ -213,6 +202,8 @@ int begin_writing(machine_object *machine);
 void end_writing(machine_object *machine);
 PyObject *machine_apply(machine_object *machine, PyObject *segment);
 PyObject *machine_run(machine_object *machine, PyObject *calls);
+PyObject *machine_calls_text(machine_object *machine, PyObject *calls);
+PyObject *machine_compact(machine_object *machine, PyObject *nothing);
 PyObject *machine_run_columns(machine_object *machine, PyObject *args);
 PyObject *machine_replies(machine_object *machine, PyObject *nothing);
 PyObject *call_once(procedure_object *procedure, PyObject *args, PyObject *named);
@@ -233,9 +224,9 @@ extern PyObject *reply_class, *replies_class, *reasons[5];
 extern newfunc new_tuple;
 extern PyTypeObject *table_type, *replies_type, *key_type, *procedure_type, *call_type, *machine_type;
 
-/* Sets the exception of a status, or of a refusal with its line. Each returns null. */
+/* Sets the exception of a status, or of a refusal with its line or report. Each returns null. */
 PyObject *raise_status(uint32_t status);
-PyObject *raise_refusal(table_object *table, bohm_bytes *line);
+PyObject *raise_refusal(table_object *table, bohm_bytes *report);
 
 PyTypeObject *make_table_type(void), *make_replies_type(void), *make_key_type(void), *make_procedure_type(void),
     *make_call_type(void), *make_machine_type(void);

@@ -76,6 +76,30 @@ static int begin_run(machine_object *machine) {
     return status;
 }
 
+/* Closes the lists of calls, which share names that the machine gives back, and whose handles are made again. */
+static void drop_lists(machine_object *machine) {
+    for (uint32_t edition = 1; edition < 3; edition++) {
+        machine->table->close_calls(machine->lists + (edition - 1));
+        for (size_t i = 0; i < machine->key_count; i++) machine->handles[edition][i] = NO_HANDLE;
+    }
+}
+
+PyObject *machine_compact(machine_object *machine, PyObject *nothing) {
+    uint32_t status;
+    (void)nothing;
+    if (begin_run(machine) < 0) return NULL;
+    if (take_turn(&machine->inside) < 0) return end_writing(machine), NULL;
+    drop_lists(machine);
+    Py_BEGIN_ALLOW_THREADS
+    status = machine->table->compact(&machine->machine);
+    Py_END_ALLOW_THREADS
+    if (!status) machine->floor = machine->top;
+    pass_turn(&machine->inside);
+    end_writing(machine);
+    if (status) return raise_status(status);
+    Py_RETURN_NONE;
+}
+
 PyObject *machine_replies(machine_object *machine, PyObject *nothing) {
     (void)nothing;
     if (begin_run(machine) < 0) return NULL;
@@ -90,42 +114,6 @@ PyObject *machine_replies(machine_object *machine, PyObject *nothing) {
 }
 
 /* --- one call --- */
-
-static uint32_t run_list(machine_object *machine, uint32_t edition) {
-    bohm_calls *list = machine->lists + (edition - 1);
-    uint32_t status = machine->table->run_calls_held(&machine->machine, list);
-    machine->table->clear_calls(list);
-    return status;
-}
-
-static uint32_t run_by_list(procedure_object *procedure, const key_argument *keys, const int64_t *values) {
-    uint32_t status = open_list(procedure->machine, procedure->edition);
-    if (!status) status = push_call(procedure, keys, values);
-    if (!status) status = run_list(procedure->machine, procedure->edition);
-    return status == BOHM_STOPPED ? BOHM_NO_MEMORY : status;
-}
-
-/* Moves the reply that waits in the library to *row, whose values are shown[0] on. */
-static uint32_t take_row(machine_object *machine, uint32_t behind, bohm_reply *row, int64_t *shown) {
-    chunk made;
-    if (take_rows(machine, behind, &made)) return BOHM_KEPT;
-    *row = made.rows[0];
-    if (row->shown) memcpy(shown, made.values + row->first, (size_t)row->shown * sizeof *shown);
-    machine->table->free(made.rows);
-    machine->table->free(made.values);
-    return BOHM_DONE;
-}
-
-/* Runs a call with its reply in *row, whose values are shown[0] on. Needs the turns. */
-static uint32_t run_one(procedure_object *procedure, const key_argument *keys, const int64_t *values, bohm_reply *row, int64_t *shown) {
-    machine_object *machine = procedure->machine;
-    int is_direct = machine->table->call && machine->table->call_named && machine->table->machine_key;
-    uint32_t behind = machine->top;
-    uint32_t status = is_direct ? run_directly(procedure, keys, values, row, shown) : run_by_list(procedure, keys, values);
-    if (status && status != BOHM_KEPT) return status;
-    machine->top++;
-    return is_direct && !status ? status : take_row(machine, behind, row, shown);
-}
 
 static void note(const char *text) {
     PyObject *kind, *error, *trace;
@@ -151,12 +139,13 @@ static PyObject *leave_lone(machine_object *machine, uint32_t behind, const bohm
 static PyObject *run_filled(procedure_object *procedure, const key_argument *keys, const int64_t *values) {
     machine_object *machine = procedure->machine;
     bohm_reply row;
-    int64_t shown[MOST_SHOWN];
+    int64_t shown[BOHM_MOST_SHOWN];
     if (begin_run(machine) < 0) return NULL;
     if (take_turn(&machine->inside) < 0) return end_writing(machine), NULL;
     uint32_t behind = machine->top;
     int is_open = procedure->procedure.at != NULL;
-    uint32_t status = is_open ? run_one(procedure, keys, values, &row, shown) : BOHM_MISUSE;
+    uint32_t status = is_open ? run_directly(procedure, keys, values, &row, shown) : BOHM_MISUSE;
+    machine->top += !status;
     pass_turn(&machine->inside);
     end_writing(machine);
     if (!is_open) return PyErr_Format(closed_error, "the procedure is closed");
@@ -283,14 +272,26 @@ static int has_timestamps(machine_object *machine, size_t count) {
 
 /* --- calls --- */
 
-static uint32_t run_calls(job *job, size_t from, size_t to) {
-    machine_object *machine = job->machine;
-    uint32_t edition = job->calls[from]->procedure->edition, status = open_list(machine, edition);
-    for (size_t i = from; !status && i < to; i++)
-        status = push_call(job->calls[i]->procedure, job->calls[i]->keys, call_values(job->calls[i]));
-    if (!status) return run_list(machine, edition);
-    machine->table->clear_calls(machine->lists + (edition - 1));
+/* Runs the calls of a list, which is emptied. */
+static uint32_t run_list(machine_object *machine, uint32_t edition) {
+    bohm_calls *list = machine->lists + (edition - 1);
+    uint32_t status = machine->table->run_calls_held(&machine->machine, list);
+    machine->table->clear_calls(list);
     return status;
+}
+
+/* Fills the list of an edition with calls of it. Unless it is BOHM_DONE, the list is empty. */
+static uint32_t fill_list(machine_object *machine, uint32_t edition, call_object **calls, size_t count) {
+    uint32_t status = open_list(machine, edition);
+    for (size_t i = 0; !status && i < count; i++) status = push_call(calls[i]->procedure, calls[i]->keys, call_values(calls[i]));
+    if (status) machine->table->clear_calls(machine->lists + (edition - 1));
+    return status;
+}
+
+static uint32_t run_calls(job *job, size_t from, size_t to) {
+    uint32_t edition = job->calls[from]->procedure->edition;
+    uint32_t status = fill_list(job->machine, edition, job->calls + from, to - from);
+    return status ? status : run_list(job->machine, edition);
 }
 
 /* Ends the batch that is being made before a place. */
@@ -352,6 +353,48 @@ PyObject *machine_run(machine_object *machine, PyObject *calls) {
     drop_job(&job);
     Py_DECREF(all);
     return replies;
+}
+
+/* The log that calls of one edition are, which fill a batch at most. Needs the turns. */
+static uint32_t text_of_calls(job *job, size_t count, bohm_bytes *out) {
+    machine_object *machine = job->machine;
+    uint32_t edition = job->calls[0]->procedure->edition, status = fill_list(machine, edition, job->calls, count);
+    if (status) return status;
+    bohm_calls *list = machine->lists + (edition - 1);
+    status = machine->table->calls_text(list, out);
+    machine->table->clear_calls(list);
+    return status;
+}
+
+/* The same as bytes. Ends the writing that the machine is in. */
+static PyObject *made_text(job *job, size_t count) {
+    bohm_bytes out = BOHM_NO_BYTES;
+    uint32_t status;
+    if (take_turn(&job->machine->inside) < 0) return end_writing(job->machine), NULL;
+    Py_BEGIN_ALLOW_THREADS
+    status = text_of_calls(job, count, &out);
+    Py_END_ALLOW_THREADS
+    pass_turn(&job->machine->inside);
+    end_writing(job->machine);
+    if (status) return raise_status(status);
+    PyObject *text = PyBytes_FromStringAndSize((const char *)out.at, (Py_ssize_t)out.len);
+    job->machine->table->free(out.at);
+    return text;
+}
+
+PyObject *machine_calls_text(machine_object *machine, PyObject *calls) {
+    if (!PyTuple_Check(calls)) return PyErr_Format(PyExc_TypeError, "a tuple of calls is expected");
+    size_t count = (size_t)PyTuple_Size(calls), closings = machine->closings;
+    job job = {.machine = machine};
+    PyObject *text = NULL;
+    int taken = take_calls(&job, calls, count);
+    if (!taken && job.batches != 1) taken = -1, PyErr_SetString(PyExc_ValueError, "the calls are of two editions");
+    if (!taken && !begin_run(machine)) {
+        if (are_still_open(&job, calls, count, closings)) text = made_text(&job, count);
+        else end_writing(machine);
+    }
+    drop_job(&job);
+    return text;
 }
 
 /* --- columns --- */

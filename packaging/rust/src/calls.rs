@@ -1,11 +1,11 @@
 //! Procedures, and lists of calls of them.
 
 use crate::error::{done, told, Error};
-use crate::raw::{self, Handle, Key};
+use crate::keys::{pointers_to, KeyHandle, Owner};
+use crate::raw::{self, Handle};
 use crate::seed;
 use crate::text::Text;
-use std::ptr;
-use std::sync::atomic::{AtomicU64, Ordering};
+use std::fmt;
 
 /// The edition of a procedure, and of the log that its calls represent.
 #[derive(Clone, Copy, Debug, PartialEq, Eq, Hash)]
@@ -22,16 +22,46 @@ pub struct Procedure {
 
 // SAFETY: `bohm.h` says that a procedure may go to another thread.
 unsafe impl Send for Procedure {}
+// SAFETY: it only changes when it is dropped, and `bohm.h` says that threads may then use it at once.
+unsafe impl Sync for Procedure {}
 
 impl Procedure {
-    /// Reads and checks a procedure. Statement numbers in a refusal count the `let`s of the values.
+    /// Reads and checks a procedure. [`Error::Refused`] has the report on a faulty one. The statement number of its first line
+    /// counts the `let`s of the values; its other lines count from the first statement of the text.
     pub fn prepare(text: impl AsRef<[u8]>) -> Result<Procedure, Error> {
         let text = text.as_ref();
         let (mut raw, mut out) = (Handle::closed(), Text::none());
         // SAFETY: the handle is closed, and the text has that length.
-        let status = unsafe { raw::bohm_prepare(&mut raw, &seed::draw(), text.as_ptr(), text.len(), out.0.out()) };
+        let status = unsafe { raw::bohm_prepare_report(&mut raw, &seed::draw(), text.as_ptr(), text.len(), out.0.out()) };
         told(status, &out)?;
         Ok(Procedure { raw })
+    }
+
+    /// The statement that a reply names by its number, from 1 on. The first numbers are those of the values' `let`s, whose lines
+    /// are the values'. `None` if there is no such statement.
+    pub fn statement(&self, number: u32) -> Result<Option<Statement>, Error> {
+        let (mut line, mut text) = (0, Text::none());
+        // SAFETY: the procedure is open until it is dropped.
+        match done(unsafe { raw::bohm_statement_text(&self.raw, number, &mut line, text.0.out()) }) {
+            Ok(()) => Ok(Some(Statement { line, text })),
+            Err(Error::Unfit) => Ok(None),
+            Err(error) => Err(error),
+        }
+    }
+}
+
+/// A statement of a procedure. It is displayed as its text.
+#[derive(Debug)]
+pub struct Statement {
+    /// The number of its line in the procedure's text, counted from 1.
+    pub line: usize,
+    /// That line.
+    pub text: Text,
+}
+
+impl fmt::Display for Statement {
+    fn fmt(&self, to: &mut fmt::Formatter<'_>) -> fmt::Result {
+        to.write_str(self.text.as_str())
     }
 }
 
@@ -42,30 +72,18 @@ impl Drop for Procedure {
     }
 }
 
-/// The most keys that a procedure can have.
-const MOST_KEYS: usize = 32;
-
-/// A key that a list of calls has looked up, by [`Calls::key`]. Calls in that list can name the key by it, until the list
-/// is dropped.
-#[derive(Clone, Copy, Debug, PartialEq, Eq, Hash)]
-pub struct KeyHandle {
-    list: u64,
-    number: u32,
-}
-
 /// A list of calls of procedures, which [`Machine::run`](crate::Machine::run) runs as a segment.
 #[derive(Debug)]
 pub struct Calls {
     pub(crate) raw: Handle,
-    number: u64,
+    owner: Owner,
     len: usize,
 }
 
-/// The number of lists made so far. Each list has its own number, so that no other list accepts its handles.
-static LISTS: AtomicU64 = AtomicU64::new(0);
-
 // SAFETY: `bohm.h` says that a list may go to another thread.
 unsafe impl Send for Calls {}
+// SAFETY: by a `&` it is only read, as by a pointer to const, which `bohm.h` lets several threads do at once.
+unsafe impl Sync for Calls {}
 
 impl Calls {
     /// An empty list for procedures of an edition. [`Machine::calls`](crate::Machine::calls) makes a list whose calls cost less.
@@ -78,7 +96,7 @@ impl Calls {
 
     /// An empty list, from an open handle.
     pub(crate) fn opened(raw: Handle) -> Calls {
-        Calls { raw, number: LISTS.fetch_add(1, Ordering::Relaxed), len: 0 }
+        Calls { raw, owner: Owner::new(), len: 0 }
     }
 
     /// Makes a handle of a key, by which [`push_named`](Calls::push_named) names the key in this list, so that a key
@@ -87,22 +105,15 @@ impl Calls {
         let (name, mut number) = (name.as_ref(), 0);
         // SAFETY: the list is open until it is dropped, and the name has that length.
         done(unsafe { raw::bohm_key_handle(&mut self.raw, name.as_ptr(), name.len(), &mut number) })?;
-        Ok(KeyHandle { list: self.number, number })
+        Ok(KeyHandle { owner: self.owner, number })
     }
 
     /// Appends a call with these arguments, in the order of the parameters. After an error the list is unchanged.
     pub fn push<K: AsRef<[u8]>>(&mut self, procedure: &Procedure, keys: &[K], values: &[i64]) -> Result<(), Error> {
-        if keys.len() > MOST_KEYS {
-            return Err(Error::Unfit);
-        }
-        let mut room = [Key { at: ptr::null(), len: 0 }; MOST_KEYS];
-        for (place, key) in room.iter_mut().zip(keys) {
-            let key = key.as_ref();
-            *place = Key { at: key.as_ptr(), len: key.len() };
-        }
+        let pointers = pointers_to(keys)?;
         // SAFETY: both are open until they are dropped, and the arrays have these lengths.
         done(unsafe {
-            raw::bohm_push(&mut self.raw, &procedure.raw, room.as_ptr(), keys.len(), values.as_ptr(), values.len())
+            raw::bohm_push(&mut self.raw, &procedure.raw, pointers.as_ptr(), keys.len(), values.as_ptr(), values.len())
         })?;
         self.len += 1;
         Ok(())
@@ -110,24 +121,24 @@ impl Calls {
 
     /// Appends a call as [`push`](Calls::push) does, with its keys named by handles of this list.
     pub fn push_named(&mut self, procedure: &Procedure, keys: &[KeyHandle], values: &[i64]) -> Result<(), Error> {
-        if keys.len() > MOST_KEYS {
-            return Err(Error::Unfit);
-        }
-        let mut room = [0; MOST_KEYS];
-        for (place, key) in room.iter_mut().zip(keys) {
-            if key.list != self.number {
-                return Err(Error::OtherList);
-            }
-            *place = key.number;
-        }
+        let numbers = self.owner.numbers_of(keys)?;
         // SAFETY: both are open until they are dropped, and the arrays have these lengths.
         done(unsafe {
             raw::bohm_push_named(
-                &mut self.raw, &procedure.raw, room.as_ptr(), keys.len(), values.as_ptr(), values.len(),
+                &mut self.raw, &procedure.raw, numbers.as_ptr(), keys.len(), values.as_ptr(), values.len(),
             )
         })?;
         self.len += 1;
         Ok(())
+    }
+
+    /// The text of the log that the calls are, without a store: what [`Machine::apply`](crate::Machine::apply) would run
+    /// instead, and what a program that audits reads.
+    pub fn text(&self) -> Result<Text, Error> {
+        let mut out = Text::none();
+        // SAFETY: the list is open until it is dropped.
+        done(unsafe { raw::bohm_calls_text(&self.raw, out.0.out()) })?;
+        Ok(out)
     }
 
     pub fn len(&self) -> usize {

@@ -4,12 +4,14 @@ use crate::raw;
 use crate::replies::Replies;
 use crate::text::Text;
 use std::fmt;
+use std::sync::Arc;
 
 /// Why a call failed. Only after `Stopped` and `Kept` has anything changed.
-#[derive(Debug)]
+#[derive(Clone, Debug, PartialEq, Eq)]
 #[non_exhaustive]
 pub enum Error {
-    /// The text was refused. The line says why, as `refused: line 3`.
+    /// The text was refused. The first line says why, as `refused: line 3`. For a procedure the lines follow that `bohm-check`
+    /// has for it: each fault's line, what is wrong, and what to write instead.
     Refused(String),
     /// An allocation failed.
     NoMemory,
@@ -28,14 +30,16 @@ pub enum Error {
     /// Replies of an earlier segment are waiting: [`Machine::replies`](crate::Machine::replies) returns them.
     Waiting,
     /// An allocation failed part way: whole batches of 4096 transactions ran, with these replies.
-    Stopped(Replies),
+    Stopped(Arc<Replies>),
     /// Transactions ran, but their replies could not be allocated: [`Machine::replies`](crate::Machine::replies) returns
     /// them later.
     Kept,
-    /// An edition, a number of arguments or the number of calls is not acceptable.
+    /// An edition, or a number of arguments or calls, is not acceptable.
     Unfit,
-    /// A key's handle belongs to another list.
-    OtherList,
+    /// The keys of a store's rows don't rise, each above the one before it.
+    Unsorted,
+    /// A key's handle belongs to another list or machine.
+    OtherOwner,
     /// A status that this crate doesn't know: the library isn't the one that its header describes.
     Unknown(u32),
 }
@@ -43,7 +47,7 @@ pub enum Error {
 impl fmt::Display for Error {
     fn fmt(&self, to: &mut fmt::Formatter<'_>) -> fmt::Result {
         match self {
-            Error::Refused(line) => to.write_str(line),
+            Error::Refused(report) => to.write_str(report),
             Error::NoMemory => to.write_str("an allocation failed"),
             Error::Trimmed => to.write_str("the timestamp is below the floor"),
             Error::Future => to.write_str("the timestamp is above the top"),
@@ -54,8 +58,9 @@ impl fmt::Display for Error {
             Error::Waiting => to.write_str("replies of an earlier segment were not taken yet"),
             Error::Stopped(_) => to.write_str("an allocation failed after part of the segment had run"),
             Error::Kept => to.write_str("the replies could not be allocated: take them later"),
-            Error::Unfit => to.write_str("an edition, a number of arguments or the number of calls is not acceptable"),
-            Error::OtherList => to.write_str("the key's handle belongs to another list"),
+            Error::Unfit => to.write_str("an edition, or a number of arguments or calls, is not acceptable"),
+            Error::Unsorted => to.write_str("the keys are not in rising order"),
+            Error::OtherOwner => to.write_str("the key's handle belongs to another list or machine"),
             Error::Unknown(status) => write!(to, "status {status}"),
         }
     }
@@ -63,7 +68,7 @@ impl fmt::Display for Error {
 
 impl std::error::Error for Error {}
 
-/// The result of a status; `out` has the line of a refusal.
+/// The result of a status; `out` has the line of a refusal, or the report on it.
 pub(crate) fn told(status: u32, out: &Text) -> Result<(), Error> {
     Err(match status {
         raw::DONE => return Ok(()),
@@ -77,6 +82,7 @@ pub(crate) fn told(status: u32, out: &Text) -> Result<(), Error> {
         raw::NO_KEY => Error::NoKey,
         raw::WAITING => Error::Waiting,
         raw::UNFIT => Error::Unfit,
+        raw::UNSORTED => Error::Unsorted,
         other => Error::Unknown(other),
     })
 }

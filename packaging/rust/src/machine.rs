@@ -1,21 +1,33 @@
 //! Machines, and the answers of whole logs.
 
-use crate::calls::{Calls, Edition};
+use crate::calls::{Calls, Edition, Procedure};
 use crate::error::{done, told, Error};
-use crate::raw::{self, Handle};
-use crate::replies::Replies;
+use crate::keys::{pointers_to, KeyHandle, Owner};
+use crate::raw::{self, Entry, Handle};
+use crate::replies::{OwnedReply, Replies};
 use crate::seed;
+use crate::store_rows::{entry_of, StoreRows};
 use crate::text::{Owned, Text};
+use std::mem::size_of;
+use std::sync::Arc;
 
-/// The least and the greatest timestamp that can be read, how many versions are kept, and how many replies are
-/// waiting.
-#[repr(C)]
-#[derive(Clone, Copy, Debug, Default, PartialEq, Eq)]
+/// What a machine holds.
+#[derive(Clone, Copy, Debug, PartialEq, Eq)]
 pub struct Counts {
+    /// The least timestamp that can be read.
     pub floor: u32,
+    /// The greatest timestamp that can be read, that of the last transaction.
     pub top: u32,
+    /// How many versions are kept.
     pub versions: u64,
+    /// How many replies are waiting.
     pub waiting: u64,
+    /// How many keys take memory, also without a value: [`Machine::compact`] leaves those with one.
+    pub names: u64,
+    /// About how many bytes the versions and the names take.
+    pub bytes: u64,
+    /// How many transactions can still run, before timestamps end at 4294967295.
+    pub left: u32,
 }
 
 /// Runs a whole log, and returns the text of its answer.
@@ -28,18 +40,21 @@ pub fn answer(log: impl AsRef<[u8]>) -> Result<Text, Error> {
     Ok(out)
 }
 
-/// A store with its past, from one timestamp, the floor, up to another, the top. It may move to another thread, and runs
-/// one call at a time.
+/// A store with its past, from one timestamp, the floor, up to another, the top. Threads may share it to read.
 #[derive(Debug)]
 pub struct Machine {
     raw: Handle,
+    owner: Owner,
 }
 
 // SAFETY: `bohm.h` says that a machine may go to another thread.
 unsafe impl Send for Machine {}
+// SAFETY: by a `&` it is only read, as by a pointer to const, which `bohm.h` lets several threads do at once.
+unsafe impl Sync for Machine {}
 
 impl Machine {
-    /// Opens a snapshot: the store after the transaction with the timestamp `top`.
+    /// Opens a snapshot: the store after the transaction with the timestamp `top`, as text of at most 64 MiB.
+    /// [`open_rows`](Machine::open_rows) opens larger ones.
     pub fn open(snapshot: impl AsRef<[u8]>, top: u32) -> Result<Machine, Error> {
         let snapshot = snapshot.as_ref();
         let (mut raw, mut out) = (Handle::closed(), Text::none());
@@ -47,7 +62,18 @@ impl Machine {
         let status =
             unsafe { raw::bohm_open(&mut raw, &seed::draw(), snapshot.as_ptr(), snapshot.len(), top, out.0.out()) };
         told(status, &out)?;
-        Ok(Machine { raw })
+        Ok(Machine { raw, owner: Owner::new() })
+    }
+
+    /// Opens a store of any size, as it is after the transaction with the timestamp `top`. Its keys come in rising order of
+    /// their bytes, as those of [`store_rows`](Machine::store_rows) or of a `BTreeMap`; if not, that is an
+    /// [`Error::Unsorted`].
+    pub fn open_rows<K: AsRef<[u8]>>(rows: impl IntoIterator<Item = (K, i64)>, top: u32) -> Result<Machine, Error> {
+        let entries = rows.into_iter().map(|(key, value)| entry_of(key.as_ref(), value)).collect::<Result<Vec<Entry>, _>>()?;
+        let mut raw = Handle::closed();
+        // SAFETY: the handle is closed, and there are that many entries.
+        done(unsafe { raw::bohm_open_rows(&mut raw, &seed::draw(), entries.as_ptr(), entries.len(), top) })?;
+        Ok(Machine { raw, owner: Owner::new() })
     }
 
     /// The replies of the transactions that just ran, which follow the timestamp `behind`.
@@ -56,13 +82,14 @@ impl Machine {
         // SAFETY: the machine is open until it is dropped.
         let handed = unsafe { raw::bohm_rows(&mut self.raw, replies.rows.out(), replies.values.out()) };
         match (handed, status) {
-            (raw::DONE, raw::STOPPED) => Err(Error::Stopped(replies)),
+            (raw::DONE, raw::STOPPED) => Err(Error::Stopped(Arc::new(replies))),
             (raw::DONE, _) => Ok(replies),
             _ => Err(Error::Kept),
         }
     }
 
-    /// Runs a segment: the text of a log without a store. The first reply is that of the timestamp `top + 1`.
+    /// Runs a segment: the text of a log without a store, of at most 64 MiB. The first reply is that of the timestamp
+    /// `top + 1`.
     pub fn apply(&mut self, segment: impl AsRef<[u8]>) -> Result<Replies, Error> {
         let (segment, behind) = (segment.as_ref(), self.top());
         let mut out = Text::none();
@@ -94,6 +121,46 @@ impl Machine {
         self.handed(status, behind)
     }
 
+    /// Runs one call, without a list, as `run` runs a list of it. Several calls in one list cost less each.
+    pub fn call<K: AsRef<[u8]>>(&mut self, procedure: &Procedure, keys: &[K], values: &[i64]) -> Result<OwnedReply, Error> {
+        let pointers = pointers_to(keys)?;
+        let mut reply = OwnedReply::empty();
+        // SAFETY: both are open until they are dropped, the arrays have these lengths, and the reply has room for all that
+        // a transaction can show.
+        done(unsafe {
+            raw::bohm_call(
+                &mut self.raw, &procedure.raw, pointers.as_ptr(), keys.len(), values.as_ptr(), values.len(),
+                &mut reply.row, reply.shown.as_mut_ptr(), reply.shown.len(),
+            )
+        })?;
+        reply.timestamp = self.top();
+        Ok(reply)
+    }
+
+    /// Makes a handle of a key, by which [`call_named`](Machine::call_named) names the key on this machine, so that a key
+    /// that is used again and again is looked up once. Each call makes a new handle.
+    pub fn key(&mut self, name: impl AsRef<[u8]>) -> Result<KeyHandle, Error> {
+        let (name, mut number) = (name.as_ref(), 0);
+        // SAFETY: the machine is open until it is dropped, and the name has that length.
+        done(unsafe { raw::bohm_machine_key(&mut self.raw, name.as_ptr(), name.len(), &mut number) })?;
+        Ok(KeyHandle { owner: self.owner, number })
+    }
+
+    /// Runs one call as [`call`](Machine::call) does, with its keys named by handles of this machine.
+    pub fn call_named(&mut self, procedure: &Procedure, keys: &[KeyHandle], values: &[i64]) -> Result<OwnedReply, Error> {
+        let numbers = self.owner.numbers_of(keys)?;
+        let mut reply = OwnedReply::empty();
+        // SAFETY: as above.
+        done(unsafe {
+            raw::bohm_call_named(
+                &mut self.raw, &procedure.raw, numbers.as_ptr(), keys.len(), values.as_ptr(), values.len(),
+                &mut reply.row, reply.shown.as_mut_ptr(), reply.shown.len(),
+            )
+        })?;
+        reply.timestamp = self.top();
+        Ok(reply)
+    }
+
     /// The replies that wait after an [`Error::Kept`].
     pub fn replies(&mut self) -> Result<Replies, Error> {
         let counts = self.counts();
@@ -109,12 +176,20 @@ impl Machine {
         Ok((present == 1).then_some(value))
     }
 
-    /// The snapshot at a timestamp, on which another machine can be opened.
+    /// The snapshot at a timestamp, as text. If it is no longer than 64 MiB, another machine can be opened on it.
     pub fn store_at(&self, ts: u32) -> Result<Text, Error> {
         let mut out = Text::none();
         // SAFETY: as above.
         done(unsafe { raw::bohm_store_at(&self.raw, ts, out.0.out()) })?;
         Ok(out)
+    }
+
+    /// The store at a timestamp, as rows of any number: its keys in rising order, with their values.
+    pub fn store_rows(&self, ts: u32) -> Result<StoreRows, Error> {
+        let mut rows = Owned::none();
+        // SAFETY: as above.
+        done(unsafe { raw::bohm_store_rows(&self.raw, ts, rows.out()) })?;
+        Ok(StoreRows(rows))
     }
 
     /// The digest of the store at a timestamp: machines with equal stores have equal digests.
@@ -129,6 +204,14 @@ impl Machine {
     pub fn trim(&mut self, floor: u32) -> Result<(), Error> {
         // SAFETY: as above.
         done(unsafe { raw::bohm_trim(&mut self.raw, floor) })
+    }
+
+    /// Drops the past below the top, and gives back the memory of all keys that have no value there, and of names that only
+    /// aborted transactions brought. Nothing else changes: the top, its store, waiting replies and handles stay, and later
+    /// transactions run as they would have. The time, and the memory that it needs meanwhile, grow with the store.
+    pub fn compact(&mut self) -> Result<(), Error> {
+        // SAFETY: as above.
+        done(unsafe { raw::bohm_compact(&mut self.raw) })
     }
 
     fn timestamps(&self) -> (u32, u32) {
@@ -148,12 +231,13 @@ impl Machine {
         self.timestamps().1
     }
 
-    /// Counts versions and waiting replies. Its time grows with the number of keys.
+    /// What the machine holds.
     pub fn counts(&self) -> Counts {
-        let mut counts = Counts::default();
+        let mut raw = raw::Counts::default();
         // SAFETY: as above.
-        unsafe { raw::bohm_counts(&self.raw, &mut counts) };
-        counts
+        unsafe { raw::bohm_counts_sized(&self.raw, &mut raw, size_of::<raw::Counts>()) };
+        let raw::Counts { floor, top, versions, waiting, names, bytes, left, unused: _ } = raw;
+        Counts { floor, top, versions, waiting, names, bytes, left }
     }
 }
 

@@ -1,8 +1,10 @@
 //! Replies.
 
-use crate::raw::Row;
+use crate::raw::{Row, MOST_SHOWN};
 use crate::text::Owned;
 use std::fmt;
+use std::iter::FusedIterator;
+use std::ops::Range;
 
 /// Why a transaction aborted.
 #[derive(Clone, Copy, Debug, PartialEq, Eq, Hash)]
@@ -39,9 +41,30 @@ pub struct Reply<'a> {
     pub outcome: Outcome<'a>,
 }
 
-impl Reply<'_> {
+impl<'a> Reply<'a> {
+    /// The reply of a row, with the values that it shows.
+    fn of(timestamp: u32, row: &Row, shows: &'a [i64]) -> Reply<'a> {
+        let abort = |reason| Outcome::Abort { reason, statement: row.statement };
+        let outcome = match row.outcome {
+            0 => Outcome::Commit { shows },
+            1 => abort(Reason::Need),
+            2 => abort(Reason::Fail),
+            3 => abort(Reason::Absent),
+            _ => abort(Reason::Range),
+        };
+        Reply { timestamp, outcome }
+    }
+
     pub fn is_commit(&self) -> bool {
         matches!(self.outcome, Outcome::Commit { .. })
+    }
+
+    /// The values that it shows: none if it aborted.
+    pub fn shows(&self) -> &'a [i64] {
+        match self.outcome {
+            Outcome::Commit { shows } => shows,
+            Outcome::Abort { .. } => &[],
+        }
     }
 }
 
@@ -54,6 +77,54 @@ impl fmt::Display for Reply<'_> {
             }
             Outcome::Abort { reason, statement } => write!(to, "{} abort {reason} {statement}", self.timestamp),
         }
+    }
+}
+
+/// The reply to a single call, which owns the values that it shows.
+#[derive(Clone)]
+pub struct OwnedReply {
+    pub(crate) timestamp: u32,
+    pub(crate) row: Row,
+    pub(crate) shown: [i64; MOST_SHOWN],
+}
+
+impl OwnedReply {
+    /// Room for a reply.
+    pub(crate) fn empty() -> OwnedReply {
+        OwnedReply { timestamp: 0, row: Row::default(), shown: [0; MOST_SHOWN] }
+    }
+
+    pub fn reply(&self) -> Reply<'_> {
+        Reply::of(self.timestamp, &self.row, &self.shown[..self.row.shown as usize])
+    }
+
+    pub fn is_commit(&self) -> bool {
+        self.reply().is_commit()
+    }
+
+    /// The values that it shows: none if it aborted.
+    pub fn shows(&self) -> &[i64] {
+        self.reply().shows()
+    }
+}
+
+impl PartialEq for OwnedReply {
+    fn eq(&self, other: &OwnedReply) -> bool {
+        self.reply() == other.reply()
+    }
+}
+
+impl Eq for OwnedReply {}
+
+impl fmt::Display for OwnedReply {
+    fn fmt(&self, to: &mut fmt::Formatter<'_>) -> fmt::Result {
+        self.reply().fmt(to)
+    }
+}
+
+impl fmt::Debug for OwnedReply {
+    fn fmt(&self, to: &mut fmt::Formatter<'_>) -> fmt::Result {
+        fmt::Debug::fmt(&self.reply(), to)
     }
 }
 
@@ -78,21 +149,59 @@ impl Replies {
     pub fn get(&self, place: usize) -> Option<Reply<'_>> {
         let row = self.rows.get(place)?;
         let first = row.first as usize;
-        let abort = |reason| Outcome::Abort { reason, statement: row.statement };
-        let outcome = match row.outcome {
-            0 => Outcome::Commit { shows: &self.values[first..first + row.shown as usize] },
-            1 => abort(Reason::Need),
-            2 => abort(Reason::Fail),
-            3 => abort(Reason::Absent),
-            _ => abort(Reason::Range),
-        };
-        Some(Reply { timestamp: self.behind + 1 + place as u32, outcome })
+        Some(Reply::of(self.behind + 1 + place as u32, row, &self.values[first..first + row.shown as usize]))
     }
 
-    pub fn iter(&self) -> impl ExactSizeIterator<Item = Reply<'_>> {
-        (0..self.len()).map(|place| self.get(place).expect("a place below the length"))
+    pub fn iter(&self) -> RepliesIter<'_> {
+        RepliesIter { replies: self, places: 0..self.len() }
     }
 }
+
+impl PartialEq for Replies {
+    fn eq(&self, other: &Replies) -> bool {
+        self.iter().eq(other)
+    }
+}
+
+impl Eq for Replies {}
+
+impl<'a> IntoIterator for &'a Replies {
+    type Item = Reply<'a>;
+    type IntoIter = RepliesIter<'a>;
+
+    fn into_iter(self) -> RepliesIter<'a> {
+        self.iter()
+    }
+}
+
+/// Replies, in the order of their transactions.
+#[derive(Clone, Debug)]
+pub struct RepliesIter<'a> {
+    replies: &'a Replies,
+    places: Range<usize>,
+}
+
+impl<'a> Iterator for RepliesIter<'a> {
+    type Item = Reply<'a>;
+
+    fn next(&mut self) -> Option<Reply<'a>> {
+        self.replies.get(self.places.next()?)
+    }
+
+    fn size_hint(&self) -> (usize, Option<usize>) {
+        self.places.size_hint()
+    }
+}
+
+impl DoubleEndedIterator for RepliesIter<'_> {
+    fn next_back(&mut self) -> Option<Self::Item> {
+        self.replies.get(self.places.next_back()?)
+    }
+}
+
+impl ExactSizeIterator for RepliesIter<'_> {}
+
+impl FusedIterator for RepliesIter<'_> {}
 
 impl fmt::Display for Replies {
     fn fmt(&self, to: &mut fmt::Formatter<'_>) -> fmt::Result {

@@ -43,6 +43,14 @@ impl<T> Drop for Owned<T> {
     }
 }
 
+impl<T: PartialEq> PartialEq for Owned<T> {
+    fn eq(&self, other: &Owned<T>) -> bool {
+        **self == **other
+    }
+}
+
+impl<T: Eq> Eq for Owned<T> {}
+
 impl<T: fmt::Debug> fmt::Debug for Owned<T> {
     fn fmt(&self, to: &mut fmt::Formatter<'_>) -> fmt::Result {
         to.debug_list().entries(self.iter()).finish()

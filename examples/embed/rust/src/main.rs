@@ -11,11 +11,10 @@ fn split(log: &str) -> (&str, Vec<&str>) {
     (store, txns.split_inclusive("\nend\n").collect())
 }
 
-/// Checks that each balance at a past timestamp is the one in that timestamp's snapshot.
-fn check_balances(ledger: &Machine, ts: u32) -> Result<(), Box<dyn Error>> {
-    for line in ledger.store_at(ts)?.as_str().lines().skip(1) {
-        let (key, value) = line.split_once(' ').ok_or("a store's line")?;
-        assert_eq!(ledger.value_at(key, ts)?, Some(value.parse()?));
+/// Checks that each balance at a past timestamp is the one in that timestamp's store.
+fn check_balances(ledger: &Machine, ts: u32) -> Result<(), bohm::Error> {
+    for (key, value) in &ledger.store_rows(ts)? {
+        assert_eq!(ledger.value_at(key, ts)?, Some(value));
     }
     Ok(())
 }
@@ -35,10 +34,10 @@ fn main() -> Result<(), Box<dyn Error>> {
         let replies = ledger.apply(&segment)?;
         write!(out, "{replies}")?;
         if let Some(second) = &mut second {
-            assert!(Machine::apply(second, &segment)?.iter().eq(replies.iter()));
+            assert_eq!(Machine::apply(second, &segment)?, replies);
         } else if number == half {
             let top = ledger.top();
-            second = Some(Machine::open(ledger.store_at(top)?, top)?);
+            second = Some(Machine::open_rows(&ledger.store_rows(top)?, top)?);
         }
     }
     let top = ledger.top();

@@ -13,6 +13,7 @@ struct Definition {
 
 pub struct Book {
     pub machine: Machine,
+    /// A list that tests calls that don't run.
     calls: Calls,
     definitions: HashMap<String, Definition>,
     edition: i64,
@@ -23,8 +24,8 @@ pub type Answer = Result<String, Refused>;
 
 impl Book {
     /// Begins with the store after the transaction with a sequence number, which is below 2^32.
-    pub fn open(edition: i64, store: &str, top: i64) -> Result<Book, Box<dyn Error>> {
-        let machine = Machine::open(format!("log 1\n{store}"), u32::try_from(top)?)?;
+    pub fn open<'a>(edition: i64, store: impl Iterator<Item = (&'a str, i64)>, top: i64) -> Result<Book, Box<dyn Error>> {
+        let machine = Machine::open_rows(store, u32::try_from(top)?)?;
         let calls = machine.calls(if edition == 1 { Edition::One } else { Edition::Two })?;
         Ok(Book { machine, calls, definitions: HashMap::new(), edition })
     }
@@ -44,7 +45,7 @@ impl Book {
         }
         let procedure = match Procedure::prepare(text) {
             Ok(procedure) => procedure,
-            Err(bohm::Error::Refused(line)) => return Ok(Err(Refused(line))),
+            Err(bohm::Error::Refused(report)) => return Ok(Err(Refused(report.lines().take(1).collect()))),
             Err(error) => return Err(error.into()),
         };
         if is_barred {
@@ -64,13 +65,17 @@ impl Book {
         let Some(values) = words.iter().map(|word| value_of(word)).collect::<Option<Vec<_>>>() else {
             return Ok(Err(Refused::because("value")));
         };
-        match self.calls.push(&definition.procedure, keys, &values) {
-            Err(bohm::Error::NoKey) => return Ok(Err(Refused::because("key"))),
-            pushed => pushed?,
+        let ran = if is_barred {
+            let pushed = self.calls.push(&definition.procedure, keys, &values);
+            self.calls.clear();
+            pushed.map(|()| Err(Refused::because("id")))
+        } else {
+            self.machine.call(&definition.procedure, keys, &values).map(|reply| Ok(reply.to_string()))
+        };
+        match ran {
+            Err(bohm::Error::NoKey) => Ok(Err(Refused::because("key"))),
+            answer => Ok(answer?),
         }
-        let replies = if is_barred { None } else { Some(self.machine.run(&self.calls)?) };
-        self.calls.clear();
-        Ok(replies.map(|replies| line_of(&replies)).ok_or_else(|| Refused::because("id")))
     }
 
     fn transact(&mut self, text: &str, is_barred: bool) -> Result<Answer, Box<dyn Error>> {

@@ -49,9 +49,9 @@ impl Ledger {
             return Err("it is no ledger, or a reader keeps its log".into());
         }
         let checkpoint = base.number("SELECT checkpoint FROM ledger")?;
-        let rows = base.run("SELECT key || ' ' || value || char(10) FROM balance ORDER BY key", &[])?;
-        let store: String = rows.iter().map(|row| row[0].text()).collect();
-        let book = Book::open(base.number("SELECT edition FROM ledger")?, &store, checkpoint)?;
+        let rows = base.run("SELECT key, value FROM balance ORDER BY key", &[])?;
+        let store = rows.iter().map(|row| (row[0].text(), row[1].number()));
+        let book = Book::open(base.number("SELECT edition FROM ledger")?, store, checkpoint)?;
         let mut ledger = Ledger { base, book, _lock: lock };
         ledger.replay(checkpoint)?;
         Ok(ledger)
@@ -143,12 +143,11 @@ impl Ledger {
     /// Writes every row; Python's ledger writes those that changed.
     pub fn checkpoint(&mut self) -> Result<(), Box<dyn Error>> {
         let top = self.book.machine.top();
-        let store = self.book.machine.store_at(top)?;
+        let store = self.book.machine.store_rows(top)?;
         self.base.run("BEGIN IMMEDIATE", &[])?;
         self.base.run("DELETE FROM balance", &[])?;
-        for line in store.as_str().lines().skip(1) {
-            let (key, value) = line.split_once(' ').ok_or("a store's line")?;
-            self.base.run("INSERT INTO balance VALUES (?, ?)", &[key.into(), Value::Number(value.parse()?)])?;
+        for (key, value) in &store {
+            self.base.run("INSERT INTO balance VALUES (?, ?)", &[key.into(), Value::Number(value)])?;
         }
         self.base.run("UPDATE ledger SET checkpoint = ?", &[i64::from(top).into()])?;
         self.base.run("COMMIT", &[])?;

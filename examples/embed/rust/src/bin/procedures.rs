@@ -1,5 +1,5 @@
 //! Transfers between accounts by procedures, like `procedures.c`.
-use bohm::{Edition, Error, Machine, Procedure};
+use bohm::{Edition, Error, Machine, Outcome, Procedure};
 
 const ACCOUNTS: &str = "log 1\nalice 100\nbob 20\ncarol 0\n";
 
@@ -36,8 +36,13 @@ fn main() -> Result<(), Error> {
     calls.push_named(&transfer, &[alice, carol], &[70])?;
     calls.push_named(&transfer, &[alice, bob], &[1])?;
     calls.push_named(&transfer, &[bob, bob], &[50])?;
-    calls.push_named(&audit, &[], &[])?;
     print!("{}", machine.run(&calls)?);
+    println!("{}", machine.call_named(&audit, &[], &[])?);
+    let reply = machine.call(&transfer, &["alice", "carol"], &[5])?;
+    if let Outcome::Abort { statement, .. } = reply.reply().outcome {
+        let failed = transfer.statement(statement)?.expect("a reply's statement");
+        println!("{reply}: {failed}");
+    }
     print!("--\n{}", &machine.store_at(machine.top())?.as_str()[6..]);
     Ok(())
 }

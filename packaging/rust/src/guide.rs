@@ -1,0 +1,5 @@
+//! How to use a machine, in three pages: [`machines`], [`procedures`], [`stores`].
+
+pub mod machines;
+pub mod procedures;
+pub mod stores;
