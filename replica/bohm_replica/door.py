@@ -1,0 +1,269 @@
+"""What a replica answers to clients."""
+import asyncio
+import json
+import re
+import time
+from collections import Counter
+from typing import TYPE_CHECKING, Callable, Dict, List, Optional, Tuple, Union
+from urllib.parse import parse_qs
+
+from . import checkpoints, status
+from .access import NEEDED, User
+from .batches import MOST as MOST_TEXTS
+from .bohm_of import bohm
+from .etcd import Behind, Refused, Rewound, Unreachable
+from .http_server import JSON, TEXT, Connection, Given, Later, Request, Response, Site, refusal
+from .log import Log
+from .sequencer import Answered, Busy
+
+if TYPE_CHECKING:
+    from .replica import Replica
+
+entries = bohm.entries
+# The most bytes of a body: of one entry, and of a batch.
+ONE, MANY = entries.LONGEST + 128, 1 << 22
+KINDS = {"call": "call ", "define": "define ", "transaction": "txn"}
+GETS = ("value", "store", "digest", "answer", "status", "metrics", "checkpoint", "healthz", "readyz")
+SEQUENCE = re.compile("[0-9]{1,19}")
+# A sentence for who asked for another path.
+PATHS = ("/value/KEY, /store, /digest (?at=N, ?fresh=1), /answer/ID, /status, /metrics, /healthz, /readyz; "
+         "POST /call, /transaction, /define, /batch")
+# Seconds after which a client that was refused for too much may try again.
+LATER = "Retry-After: 1\r\n"
+LATE = refusal(503, "no answer yet: the entry may run later, so send it again with its id", LATER)
+
+
+class Bad(Exception):
+    """A request that can't be answered, and the status that says so."""
+
+    def __init__(self, status: int, words: str, heads: str = "") -> None:
+        super().__init__(words)
+        self.status, self.heads = status, heads
+
+
+class Door(Site):
+    """The door of a replica."""
+
+    def __init__(self, replica: "Replica") -> None:
+        self.replica = replica
+        self.whole = asyncio.Semaphore(2)
+        # Entries of users that wait for an answer.
+        self.waiting: Counter[str] = Counter()
+
+    def note(self, segment: str, status: int) -> None:
+        name = segment if segment in NEEDED or segment in ("healthz", "readyz") else "other"
+        self.replica.figures.requests[name, status] += 1
+
+    def note_refused(self, why: str) -> None:
+        self.replica.figures.refused[why] += 1
+
+    # By the head.
+
+    def admit(self, request: Request) -> Optional[Response]:
+        segment = request.segment
+        is_post = segment in KINDS or segment == "batch"
+        if not is_post and segment not in GETS:
+            return refusal(404, PATHS)
+        if request.method not in (("POST",) if is_post else ("GET", "HEAD")):
+            return refusal(405, "POST is needed" if is_post else "GET is needed")
+        if refused := self.replica.access.refuses(request):
+            return refused
+        if not is_post:
+            return refusal(413, "a read has no body") if request.length else None
+        if "content-length" not in request.heads:
+            return refusal(411, "a body needs Content-Length", closes=True)
+        if request.length > (MANY if segment == "batch" else ONE):
+            return refusal(413, f"at most {MANY if segment == 'batch' else ONE} bytes")
+        return None
+
+    def admit_now(self, request: Request) -> Optional[Response]:
+        if request.method != "POST":
+            return None
+        user = self.user_of(request)
+        return self.is_full() or (self.exceeds(user, 1) if user else None)
+
+    def user_of(self, request: Request) -> Optional[User]:
+        """Who sends a request, if there are users."""
+        return None if self.replica.access.is_open else self.replica.access.user_of(request)
+
+    def exceeds(self, user: User, count: int) -> Optional[Response]:
+        """Why so many more entries of a user aren't taken, if they aren't: one alone can't fill the queue that all share."""
+        most, waiting = user.most or self.replica.options.get("user-entries"), self.waiting[user.name]
+        if waiting + count <= most:
+            return None
+        if count > most:
+            return refusal(413, f"at most {most} entries of {user.name} at once")
+        return refusal(429, f"{waiting} entries of {user.name} wait", LATER)
+
+    def is_full(self) -> Optional[Response]:
+        """Why nothing more is taken, if nothing is."""
+        sequencer = self.replica.sequencer
+        if not sequencer or not self.replica.takes:
+            return refusal(503, self.replica.trouble or "this replica doesn't reach etcd", LATER)
+        return refusal(429, "too much waits for etcd", LATER) if sequencer.is_full() else None
+
+    # What is answered.
+
+    def answer(self, request: Request, body: bytes, connection: Connection) -> Given:
+        try:
+            if request.segment in KINDS or request.segment == "batch":
+                return self.post(request, body)
+            return self.get(request, connection)
+        except Bad as bad:
+            return refusal(bad.status, str(bad), bad.heads)
+
+    def post(self, request: Request, body: bytes) -> Given:
+        # Much may have come, or gone, while the body came.
+        full = self.is_full()
+        if full:
+            return full
+        assert self.replica.sequencer
+        texts = self.texts_of(request, body)
+        if isinstance(texts, Response):
+            return texts
+        user = self.user_of(request)
+        refused = self.exceeds(user, len(texts)) if user else None
+        if refused:
+            return refused
+        later = Later(self.replica.options.get("wait"), LATE)
+        begun = time.monotonic()
+
+        def take(found: Union[Answered, Exception]) -> None:
+            if user:
+                self.release(user, len(texts))
+            later.give(lambda: self.answered(request.segment, found, begun))
+
+        try:
+            self.replica.sequencer.submit(texts, take)
+        except Busy as busy:
+            return refusal(429, str(busy), LATER)
+        if user:
+            self.waiting[user.name] += len(texts)
+        return later
+
+    def release(self, user: User, count: int) -> None:
+        self.waiting[user.name] -= count
+        if not self.waiting[user.name]:
+            del self.waiting[user.name]
+
+    def texts_of(self, request: Request, body: bytes) -> Union[List[str], Response]:
+        """The entries of a body, or why it is refused."""
+        if b"\0" in body:
+            raise Bad(400, "an entry has no NUL")
+        text = body.decode("latin-1")
+        if not text.endswith("\n"):
+            text += "\n"
+        if request.segment == "batch":
+            texts = [*entries.split(text)]
+            if not 0 < len(texts) <= MOST_TEXTS:
+                raise Bad(413, f"a batch has 1 to {MOST_TEXTS} entries")
+            if not all(each.startswith("call ") for each in texts) and not self.replica.access.may(request, "define"):
+                raise Bad(403, "only calls, without the role define")
+            return texts
+        # What is never accepted takes no place in the log.
+        if not text.startswith(KINDS[request.segment]):
+            return refusal(400, str(entries.SHAPE))
+        found = entries.read(text)
+        if isinstance(found[1], entries.Refused):
+            return refusal(400, str(found[1]))
+        return [text]
+
+    def answered(self, segment: str, found: Union[Answered, Exception], begun: float) -> Response:
+        """The answer to entries that have run, or that nothing came of."""
+        if isinstance(found, Refused):
+            return refusal(507 if "space" in str(found) else 503, f"etcd refused the entry: {found}", LATER)
+        if isinstance(found, Exception):
+            return refusal(503, str(found), LATER)
+        self.replica.figures.waits.add(time.monotonic() - begun)
+        heads = f"Bohm-Revision: {found.revision}\r\n"
+        if segment == "batch":
+            return Response(200, "".join([f"{answer}\n" for answer in found.answers]).encode(), TEXT, heads)
+        answer = found.answers[0]
+        status = 200 if not answer.startswith("refused") else 409 if answer == str(entries.TAKEN) else 400
+        return Response(status, f"{answer}\n".encode(), TEXT, heads)
+
+    # Reads.
+
+    def get(self, request: Request, connection: Connection) -> Given:
+        segment, _, rest = request.path[1:].partition("/")
+        if segment in ("healthz", "readyz"):
+            return self.health(segment)
+        if segment == "status":
+            return json_of(status.of(self.replica))
+        if segment == "metrics":
+            return Response(200, status.metrics(self.replica).encode(), "text/plain; version=0.0.4; charset=utf-8")
+        if segment == "checkpoint":
+            return checkpoints.given(self.replica, connection, self.whole)
+        log = self.replica.log
+        if not log or self.replica.is_stopped:
+            raise Bad(503, self.replica.trouble or "there is nothing here yet", LATER)
+        if segment == "answer":
+            return self.answer_to(log, rest)
+        return self.read(request, segment, rest)
+
+    def health(self, segment: str) -> Response:
+        trouble = self.replica.trouble if segment == "healthz" else self.replica.unready()
+        if segment == "healthz" and not self.replica.is_stopped:
+            trouble = None
+        return refusal(503, trouble) if trouble else Response(200, b"ok\n")
+
+    async def answer_to(self, log: Log, request: str) -> Response:
+        """The answer to the entry with an id, looked up where it waits for no checkpoint of this loop."""
+        found = await self.replica.work(log.ledger.answer_to, request) if entries.ID.fullmatch(request) else None
+        return refusal(404, "no entry that has run here has this id") if found is None else Response(200, f"{found}\n".encode())
+
+    def read(self, request: Request, segment: str, rest: str) -> Given:
+        at, fresh = read_query(request.query)
+        if (segment == "value") != bool(rest) or segment == "value" and not entries.KEY.fullmatch(rest):
+            raise Bad(400, "/value/KEY needs a key, and nothing else has one")
+        looks: "Dict[str, Callable[[bohm.Store], Dict[str, object]]]" = {
+            "value": lambda store: {"key": rest, "value": store.get(rest)},
+            "store": lambda store: {"store": store.items()},
+            "digest": lambda store: {"digest": store.digest().hex()}}
+        look = looks[segment]
+        if segment == "store" and self.replica.server.is_full():
+            raise Bad(429, "too many stores are being read", LATER)
+        return self.read_fresh(look) if fresh else self.looked(at, look)
+
+    def looked(self, at: Optional[int], look: "Callable[[bohm.Store], Dict[str, object]]") -> Response:
+        assert self.replica.log
+        ledger = self.replica.log.ledger
+        try:
+            store = ledger.at(at)
+            found: Dict[str, object] = {"sequence": store.sequence}
+            found.update(look(store))
+            return json_of(found)
+        except bohm.TrimmedError:
+            if at is None:
+                return self.looked(at, look)
+            raise Bad(410, f"the store before transaction {self.replica.log.floor} is no longer here") from None
+        except bohm.FutureError:
+            raise Bad(503, f"transaction {at} isn't here yet", LATER) from None
+
+    async def read_fresh(self, look: "Callable[[bohm.Store], Dict[str, object]]") -> Response:
+        """A read after all that was acknowledged before it came."""
+        try:
+            await self.replica.fresh()
+            return self.looked(None, look)
+        except (asyncio.TimeoutError, Unreachable):
+            return refusal(503, "etcd doesn't tell its last entry, or it isn't here yet", LATER)
+        except (Rewound, Behind, Refused) as fault:
+            return refusal(503, str(fault), LATER)
+        except Bad as bad:
+            return refusal(bad.status, str(bad), bad.heads)
+
+
+def json_of(found: object) -> Response:
+    return Response(200, json.dumps(found).encode() + b"\n", JSON)
+
+
+def read_query(query: str) -> Tuple[Optional[int], bool]:
+    """The sequence number of `at=N`, and whether `fresh=1` is there."""
+    try:
+        words = parse_qs(query, keep_blank_values=True, strict_parsing=bool(query), max_num_fields=4)
+    except ValueError as fault:
+        raise Bad(400, f"the query isn't one: {fault}") from None
+    at, fresh = words.pop("at", []), words.pop("fresh", ["0"])
+    if words or fresh not in (["0"], ["1"]) or len(at) + (fresh == ["1"]) > 1 or not all(map(SEQUENCE.fullmatch, at)):
+        raise Bad(400, "at=N has a sequence number, fresh is 0 or 1, and only one of them is there")
+    return (int(at[0]) if at else None), fresh == ["1"]

@@ -1,0 +1,144 @@
+"""A sequencer: what clients sent within some milliseconds becomes one entry of the log."""
+import asyncio
+import collections
+import secrets
+import time
+from typing import Callable, Deque, Dict, List, NamedTuple, Sequence, Union
+
+from . import batches
+from .etcd import Etcd, Refused, Taken
+from .log import Ran
+from .position import Position
+
+# The most texts and bytes of an entry of the log, and of all that wait for an answer.
+MOST, LARGEST = batches.MOST, 1 << 18
+MOST_WAITING, LARGEST_WAITING = 20_000, 1 << 24
+# Seconds for which what comes together is waited for.
+GATHER = 0.002
+
+
+class Busy(Exception):
+    """So much waits that no more is taken."""
+
+
+class Answered(NamedTuple):
+    """The answers to texts, and the revision of the entry in which they were put."""
+
+    revision: int
+    answers: Sequence[str]
+
+
+# What takes the answers to texts, or the fault by which there are none.
+Taker = Callable[[Union[Answered, Exception]], None]
+
+
+class Sent(NamedTuple):
+    """Texts that wait for their answers, their bytes, and who takes these."""
+
+    texts: Sequence[str]
+    size: int
+    take: Taker
+
+
+class Sequencer:
+    """Puts entries of its own name, one after another."""
+
+    def __init__(self, etcd: Etcd, replica: str, position: Callable[[], Position], linger: float) -> None:
+        self.etcd, self.replica, self.position, self.linger = etcd, replica, position, linger
+        self.waiting: Deque[Sent] = collections.deque()
+        self.put: Dict[int, List[Sent]] = {}
+        self.some = asyncio.Event()
+        self.count = self.size = 0
+        self.begin()
+
+    def begin(self) -> None:
+        """Takes a name that no other sequencer has, before or now."""
+        self.name, self.number = f"{self.replica}.{secrets.token_hex(6)}", 0
+
+    def submit(self, texts: Sequence[str], take: Taker) -> None:
+        """Texts without a NUL, at most `MOST`, which are put together; `take` is called once, later. Raises Busy."""
+        size = sum(map(len, texts)) + len(texts)
+        if self.count + len(texts) > MOST_WAITING or self.size + size > LARGEST_WAITING:
+            raise Busy(f"{self.count} entries wait")
+        self.count += len(texts)
+        self.size += size
+        self.waiting.append(Sent(texts, size, take))
+        self.some.set()
+
+    def taken(self) -> List[Sent]:
+        """What goes into the next entry."""
+        group = [self.waiting.popleft()]
+        count, size = len(group[0].texts), group[0].size
+        while self.waiting and count + len(self.waiting[0].texts) <= MOST and size + self.waiting[0].size <= LARGEST:
+            group.append(self.waiting.popleft())
+            count += len(group[-1].texts)
+            size += group[-1].size
+        return group
+
+    async def run(self) -> None:
+        """Puts what comes, without end. Raises Rewound, or Behind."""
+        begun, size = 0.0, 1
+        while True:
+            if not self.waiting:
+                self.some.clear()
+                await self.some.wait()
+            # One that comes alone is put at once, and what comes while it is under way goes together. Where several came
+            # together before, the others are about to come again, now that they were answered.
+            if size > 1 or len(self.waiting) > 1:
+                left = max(begun + self.linger - time.monotonic(), GATHER if len(self.waiting) < size else 0.0)
+                if left > 0:
+                    await asyncio.sleep(left)
+            begun = time.monotonic()
+            group = self.taken()
+            size = len(group)
+            await self.put_group(group)
+
+    async def put_group(self, group: List[Sent]) -> None:
+        value = batches.written([text for sent in group for text in sent.texts], self.position().rules)
+        while True:
+            self.put[self.number + 1] = group
+            try:
+                await self.etcd.put_entry(self.name, self.number + 1, value, self.position)
+                self.number += 1
+                return
+            except Refused as fault:
+                self.end(self.put.pop(self.number + 1, []), fault)
+                return
+            except Taken:
+                del self.put[self.number + 1]
+                self.begin()
+
+    def ran(self, name: str, number: int, ran: Ran) -> None:
+        """Gives the answers of an entry to those who sent its texts."""
+        group = self.put.pop(number, None) if name == self.name else None
+        if group is None:
+            return
+        if ran.skipped:
+            self.end(group, Refused(f"the entry was skipped: {ran.skipped}"))
+            return
+        at, revision, answers = 0, ran.entry.revision, ran.answers
+        for sent in group:
+            self.forget(sent)
+            end = at + len(sent.texts)
+            sent.take(Answered(revision, answers[at:end]))
+            at = end
+
+    def end(self, group: Sequence[Sent], fault: Exception) -> None:
+        """Ends with a fault what was sent."""
+        for sent in group:
+            self.forget(sent)
+            sent.take(fault)
+
+    def end_all(self, fault: Exception) -> None:
+        ended = [*self.waiting, *(sent for group in self.put.values() for sent in group)]
+        self.waiting.clear()
+        self.put.clear()
+        self.end(ended, fault)
+
+    def forget(self, sent: Sent) -> None:
+        self.count -= len(sent.texts)
+        self.size -= sent.size
+
+    def is_full(self) -> bool:
+        """Whether so much waits that no batch may come."""
+        return self.count + MOST > MOST_WAITING or self.size + LARGEST > LARGEST_WAITING

@@ -1,0 +1,65 @@
+"""Compares the final state of replicas and clients with one another and with the serial run by `./bohm`."""
+from __future__ import annotations
+
+import contextlib
+import sqlite3
+from collections import defaultdict
+from dataclasses import dataclass, field
+from pathlib import Path
+
+import history
+import serial
+from scene import Scene
+from serial import Serial
+from stage import ReplicaChild
+
+
+@dataclass
+class Outcome:
+    """The results of the run. `faults` lists the errors."""
+    serial: Serial
+    verdict: history.Verdict
+    places: int = 0
+    differing: int = 0
+    faults: list[str] = field(default_factory=list)
+
+
+def judge(scene: Scene, program: Path) -> Outcome:
+    """Reads the files of the replicas, which have ended, and judges the run."""
+    run = serial.run(scene.witness.puts, program)
+    verdict = history.check([each for client in scene.clients for each in client.asked], run)
+    found = Outcome(run, verdict, faults=list(verdict.faults()))
+    check_digests(scene, program, found)
+    for replica in scene.replicas:
+        check_replica(replica, found)
+    return found
+
+
+def check_digests(scene: Scene, program: Path, found: Outcome) -> None:
+    """Compares all digests that replicas ever told, place by place, with one another and the serial run's stores."""
+    told: dict[int, set[str]] = defaultdict(set)
+    for value in scene.witness.digests:
+        words = value.decode("latin-1").split(" ")
+        if len(words) == 4 and words[0].isdigit() and 0 < int(words[0]) <= found.serial.entries:
+            told[int(words[0])].add(" ".join(words[1:]))
+    found.places = len(told)
+    for place, digests in told.items():
+        wanted = serial.digest_at(found.serial, place, program)
+        if len(digests) > 1 or next(iter(digests)).split(" ")[2] != wanted:
+            found.differing += 1
+            found.faults.append(f"digests after entry {place}: {sorted(digests)}, the serial run's store has {wanted}")
+
+
+def check_replica(replica: ReplicaChild, found: Outcome) -> None:
+    """A replica's file has the serial run's store, and exactly its ids with their answers."""
+    with contextlib.closing(sqlite3.connect(replica.folder / "ledger")) as base:
+        entries, checkpoint = base.execute("SELECT entries, checkpoint FROM position, ledger").fetchone()
+        ids = dict(base.execute("SELECT id, answer FROM request").fetchall())
+        store = "".join(f"{key} {value}\n" for key, value in base.execute("SELECT key, value FROM balance ORDER BY key")).encode()
+    if (entries, checkpoint) != (found.serial.entries, len(found.serial.transactions)):
+        found.faults.append(f"{replica.name} is after entry {entries}, transaction {checkpoint}, not {found.serial.entries}, "
+                            f"{len(found.serial.transactions)}")
+    if store != found.serial.store:
+        found.faults.append(f"{replica.name}: another store than the serial run's")
+    if ids != found.serial.ids:
+        found.faults.append(f"{replica.name}: {len(ids)} ids, not the serial run's {len(found.serial.ids)}, or other answers")
