@@ -7,7 +7,7 @@
 #include <stdlib.h>
 #include <string.h>
 
-static const char *transfer = "procedure 1\nkey from\nkey to\nvalue amount\nreads from to\nwrites from to\n"
+static const char *transfer = "procedure 2\nkey from\nkey to\nvalue amount\nreads from to\nwrites from to\n"
                               "set from = from - $amount\nset to = to + $amount\nend\n";
 
 static const uint8_t seed[16];
@@ -36,8 +36,8 @@ int main(int argc, char **argv) {
     bohm_procedure by = {0};
     bohm_calls calls = {0};
     done(bohm_prepare(&by, seed, (const uint8_t *)transfer, strlen(transfer), NULL));
-    done(bohm_open_calls(&calls, seed, 1));
-    char *store = malloc((size_t)keys * 24 + 16), *at = store + sprintf(store, "log 1\n");
+    done(bohm_open_calls(&calls, seed, 2));
+    char *store = malloc((size_t)keys * 24 + 16), *at = store + sprintf(store, "log 2\n");
     for (long i = 0; i < keys; i++) at += sprintf(at, "k%07ld 1000\n", i);
     done(bohm_open(&machine, seed, (uint8_t *)store, (size_t)(at - store), 0, NULL));
     uint64_t before = versions(&machine);

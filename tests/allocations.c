@@ -4,8 +4,9 @@
        FAIL_ALLOCATIONS=N  allocation N and all later ones fail
        FAIL_THREAD=N       starting thread N fails
        FAIL_THREADS=N      starting thread N or any later one fails
-   If FAIL_REPORT names an open file descriptor, 'A T' is written to it at the end: the numbers of
-   allocations and of threads that were requested. */
+       FAIL_SECONDS=N      the program is killed after N seconds
+   If FAIL_REPORT names an open file descriptor, 'A T L' is written to it at the end: the numbers of
+   allocations and of threads that were requested, and of threads that started and weren't joined. */
 #define _GNU_SOURCE
 #include <dlfcn.h>
 #include <errno.h>
@@ -20,6 +21,7 @@
 
 static atomic_long allocations;
 static atomic_long threads;
+static atomic_long left;
 static atomic_long is_counting;
 static long one_allocation, all_allocations, one_thread, all_threads;
 static int report = -1;
@@ -30,6 +32,7 @@ static void *(*real_realloc)(void *, size_t);
 static void *(*real_aligned_alloc)(size_t, size_t);
 static int (*real_posix_memalign)(void **, size_t, size_t);
 static int (*real_pthread_create)(pthread_t *, const pthread_attr_t *, void *(*)(void *), void *);
+static int (*real_pthread_join)(pthread_t, void **);
 
 /* The memory for dlsym's own allocations, before calloc is found. */
 static char early[65536];
@@ -61,6 +64,7 @@ static void find(void) {
     *(void **)&real_aligned_alloc = dlsym(RTLD_NEXT, "aligned_alloc");
     *(void **)&real_posix_memalign = dlsym(RTLD_NEXT, "posix_memalign");
     *(void **)&real_pthread_create = dlsym(RTLD_NEXT, "pthread_create");
+    *(void **)&real_pthread_join = dlsym(RTLD_NEXT, "pthread_join");
 }
 
 __attribute__((constructor)) static void begin(void) {
@@ -70,13 +74,14 @@ __attribute__((constructor)) static void begin(void) {
     one_thread = number("FAIL_THREAD");
     all_threads = number("FAIL_THREADS");
     if (getenv("FAIL_REPORT")) report = (int)number("FAIL_REPORT");
+    alarm((unsigned)number("FAIL_SECONDS"));
     atomic_store(&is_counting, 1);
 }
 
 static void tell(void) {
-    char line[64];
+    char line[96];
     if (report < 0) return;
-    int size = snprintf(line, sizeof line, "%ld %ld\n", atomic_load(&allocations), atomic_load(&threads));
+    int size = snprintf(line, sizeof line, "%ld %ld %ld\n", atomic_load(&allocations), atomic_load(&threads), atomic_load(&left));
     if (write(report, line, (size_t)size) != size) return;
 }
 
@@ -158,5 +163,15 @@ int posix_memalign(void **out, size_t alignment, size_t size) {
 
 int pthread_create(pthread_t *thread, const pthread_attr_t *how, void *(*start)(void *), void *with) {
     find();
-    return is_refused(&threads, one_thread, all_threads) ? EAGAIN : real_pthread_create(thread, how, start, with);
+    if (is_refused(&threads, one_thread, all_threads)) return EAGAIN;
+    int status = real_pthread_create(thread, how, start, with);
+    if (status == 0) atomic_fetch_add(&left, 1);
+    return status;
+}
+
+int pthread_join(pthread_t thread, void **result) {
+    find();
+    int status = real_pthread_join(thread, result);
+    if (status == 0) atomic_fetch_sub(&left, 1);
+    return status;
 }

@@ -5,6 +5,7 @@ import gc
 import os
 import pickle
 import signal
+import struct
 import sys
 import threading
 import time
@@ -165,8 +166,10 @@ class Entered(unittest.TestCase):
                 return
             except bohm.BusyError:
                 seen.append(self.machine.top)
+            self.assertEqual(self.add.statement(2).text, "set k = k + $n")
             for use in (lambda: self.machine.value_at("a"), lambda: "a" in self.machine, self.machine.snapshot, self.machine.counts,
                         self.machine.digest, self.machine.close, self.machine.trim, lambda: self.machine.key("x"), self.machine.replies,
+                        self.machine.store_rows, self.machine.compact, lambda: self.machine.calls_text([self.add.call("a", 1)]),
                         lambda: self.machine.prepare(ADD), self.add.close, lambda: self.machine.apply(texts(1)), lambda: self.machine.run([])):
                 with self.assertRaises(bohm.BusyError):
                     use()
@@ -408,28 +411,37 @@ class Habits(unittest.TestCase):
         for text in (TRANSFER.encode(), TRANSFER.replace("    ", "").strip().encode(), b""):
             with self.assertRaises(bohm.RefusedError):
                 machine.prepare(text)
-        with self.assertRaises(bohm.RefusedError) as caught:
-            machine.prepare(TRANSFER.replace("need $amount", "nedd $amount"))
-        self.assertEqual((caught.exception.line, str(caught.exception)), ("refused: line 7", "refused: line 7: nedd $amount > 0"))
-        for old, new, told in (("reads from to", "reads to from", "check order 1 0: to from: the names of a set rise"),
-                               ("show to", "show fees", "check unread 1 7: show fees"), ("show to\n", "set fees = 1\n", "check unwritten 1 7: set fees = 1"),
-                               ("show to", "let $amount = 1", "check local 1 7: let $amount = 1"), ("    end\n", "", "short"),
-                               ("    key to\n", "    key from\n", "line 3: key from"), ("show to\n", "fail\n" * 65, "check limit 1 0")):
+        # tests/reports compares more reports with bohm-check's.
+        for old, new, line, shown in (("need $amount", "nedd $amount", "line 7", "line 7:\n    nedd $amount > 0"),
+                                      ("reads from to", "reads to from", "check order 1 0", "line 5:\n    reads to from"),
+                                      ("show to", "show fees", "check unread 1 7", "line 12, statement 6:\n    show fees"),
+                                      ("show to\n", "set fees = 1\n", "check unwritten 1 7", "line 12, statement 6:\n    set fees = 1"),
+                                      ("show to", "let $amount = 1", "check local 1 7", "line 12, statement 6:\n    let $amount = 1"),
+                                      ("    end\n", "", "short", "line 13:"), ("    key to\n", "    key from\n", "line 3", "line 3:\n    key from"),
+                                      ("show to\n", "fail\n" * 65, "check limit 1 0", "line 1:\n    procedure 2")):
             with self.assertRaises(bohm.RefusedError) as caught:
                 machine.prepare(TRANSFER.replace(old, new).replace("    ", ""))
-            self.assertEqual(str(caught.exception), "refused: " + told)
+            self.assertEqual(caught.exception.line, "refused: " + line)
+            self.assertTrue(str(caught.exception).startswith(f"refused: {line}\n{shown}\n"), str(caught.exception))
 
     def test_statements(self):
         machine = opened("alice 100\nbob 20\n")
         transfer = machine.prepare(TRANSFER)
         reply = transfer("alice", "bob", 101)
-        self.assertEqual((str(reply), transfer.statement(reply.statement)), ("1 abort need 3", "need from >= $amount"))
+        self.assertEqual(f"{reply}: {transfer.statement(reply.statement)}", "1 abort need 3: need from >= $amount")
+        self.assertEqual(transfer.statement(reply.statement), (8, "need from >= $amount"))
         reply = transfer("alice", "bob", 0)
-        self.assertEqual((str(reply), transfer.statement(reply.statement)), ("2 abort need 2", "need $amount > 0"))
-        self.assertEqual(transfer.statement(7), "show to")
-        for number in (0, 8):
+        self.assertEqual(f"{reply}: {transfer.statement(reply.statement)}", "2 abort need 2: need $amount > 0")
+        self.assertEqual([transfer.statement(number).line for number in range(1, 8)], [4, 7, 8, 9, 10, 11, 12])
+        self.assertEqual((transfer.statement(1).text, transfer.statement(7).text), ("value amount", "show to"))
+        for number in (-1, 0, 8, 1 << 31, 1 << 32, 1 << 64):
             with self.assertRaises(IndexError):
                 transfer.statement(number)
+        with self.assertRaises(TypeError):
+            transfer.statement("3")
+        transfer.close()
+        with self.assertRaises(bohm.ClosedError):
+            transfer.statement(1)
 
     def test_names_of_parameters(self):
         machine = opened("a 1\nb 2\n")
@@ -585,6 +597,7 @@ class Habits(unittest.TestCase):
         machine.close()
         self.assertTrue(machine.closed)
         for use in (lambda: add("a", 1), lambda: machine.run([]), lambda: machine["a"], machine.snapshot, machine.counts, machine.replies,
+                    machine.store_rows, machine.compact, lambda: machine.calls_text([call]),
                     lambda: machine.apply("log 1\n"), machine.trim, machine.digest, lambda: machine.key("a"), lambda: machine.prepare(ADD)):
             with self.assertRaises(bohm.ClosedError):
                 use()
@@ -642,6 +655,118 @@ class Segments(unittest.TestCase):
         self.assertEqual((machine.snapshot(5), machine.store_at(6)), (b"log 1\na 5\n", {"a": 6}))
         again = bohm.Machine(machine.snapshot(), machine.top, library=LIBRARY)
         self.assertEqual((again.digest(), again.top), (machine.digest(), 10))
+
+
+class Stores(unittest.TestCase):
+    """Stores as rows, logs of calls, and memory that is given back."""
+
+    ROW = struct.Struct("=32sq")
+
+    def test_rows(self):
+        long = "k" * 32
+        store = {"a": -(1 << 63), "a0": 0, "ab": 7, long: (1 << 63) - 1}
+        machine = bohm.Machine.open_rows(store, 9, library=LIBRARY)
+        rows = machine.store_rows()
+        self.assertEqual(rows, b"".join(self.ROW.pack(key.encode(), value) for key, value in store.items()))
+        self.assertEqual((machine.top, machine.floor, machine.store_at(), len(machine), list(machine)), (9, 9, store, 4, [*store]))
+        text = bohm.Machine("log 1\n" + "".join(f"{key} {value}\n" for key, value in store.items()), 9, library=LIBRARY)
+        self.assertEqual((text.digest(), text.store_rows(9)), (machine.digest(), rows))
+        # Mappings in any order, pairs in rising order, rows in any buffer, also one that isn't aligned.
+        reverse = dict(reversed([*store.items()]))
+        for given in (rows, bytearray(rows), memoryview(b"x" + rows)[1:], reverse, store.items(), iter(store.items()),
+                      [(key.encode(), value) for key, value in store.items()]):
+            self.assertEqual(bohm.Machine.open_rows(given, library=LIBRARY).store_rows(), rows)
+        for empty in (b"", {}, [], bytearray()):
+            self.assertEqual(bohm.Machine.open_rows(empty, library=LIBRARY).store_rows(), b"")
+        add = machine.prepare(ADD)
+        self.assertEqual(str(add("ab", 1)), "10 commit 8")
+        self.assertEqual((machine.store_rows(9), machine.store_at()), (rows, {**store, "ab": 8}))
+        for ts, kind in ((8, bohm.TrimmedError), (11, bohm.FutureError), (-1, ValueError)):
+            with self.assertRaises(kind):
+                machine.store_rows(ts)
+
+    def test_wrong_rows(self):
+        row = self.ROW.pack
+        for wrong, kind in ((row(b"b", 1) + row(b"a", 1), bohm.UnsortedError), (row(b"a", 1) * 2, bohm.UnsortedError), (row(b"", 1), bohm.NoKeyError),
+                            (row(b"A", 1), bohm.NoKeyError), (row(b"a", 1)[:-1], ValueError), ([("b", 1), ("a", 1)], bohm.UnsortedError),
+                            ([("a", 1), ("a", 1)], bohm.UnsortedError), ({"A": 1}, bohm.NoKeyError), ({"a" * 33: 1}, bohm.NoKeyError),
+                            ({"a\0b": 1}, bohm.NoKeyError), ({"a": 1 << 63}, OverflowError), ({"a": 1.5}, TypeError), ({5: 1}, TypeError), (5, TypeError)):
+            with self.assertRaises(kind):
+                bohm.Machine.open_rows(wrong, library=LIBRARY)
+        with self.assertRaises(ValueError):
+            bohm.Machine.open_rows({}, 1 << 32, library=LIBRARY)
+
+    def test_above_64_mebibytes(self):
+        """A store whose text no call reads any more is opened by its rows."""
+        count = 1_250_000
+        rows = b"".join(self.ROW.pack(b"k%031d" % number, number - (1 << 63)) for number in range(count))
+        machine = bohm.Machine.open_rows(rows, 5, library=LIBRARY)
+        text = machine.snapshot()
+        self.assertGreater(len(text), 64 << 20)
+        with self.assertRaisesRegex(bohm.RefusedError, "too long"):
+            bohm.Machine(text, 5, library=LIBRARY)
+        del text
+        second = bohm.Machine.open_rows(machine.store_rows(), machine.top, library=LIBRARY)
+        for each in (machine, second):
+            self.assertEqual(each.prepare(ADD)("k" + "0" * 31, 7).shows, (7 - (1 << 63),))
+        self.assertEqual((second.digest(), second.top, len(second)), (machine.digest(), 6, count))
+
+    def test_calls_text(self):
+        machine = opened("a 10\nb 20\n")
+        transfer, add = machine.prepare(TRANSFER), machine.prepare(ADD)
+        a = machine.key("a")
+        calls = [transfer.call(a, "b", 3), add.call("b", -(1 << 63)), transfer.call(a, a, 1)]
+        text = ("log 2\n"
+                "txn\nreads a b\nwrites a b\nlet $amount = 3\nneed $amount > 0\nneed a >= $amount\nset a = a - $amount\nset b = b + $amount\n"
+                "show a\nshow b\nend\n"
+                "txn\nreads b\nwrites b\nlet $n = -9223372036854775807 - 1\nset b = b + $n\nshow b\nend\n"
+                "txn\nreads a\nwrites a\nlet $amount = 1\nneed $amount > 0\nneed a >= $amount\nset a = a - $amount\nset a = a + $amount\n"
+                "show a\nshow a\nend\n")
+        self.assertEqual(machine.calls_text(calls).decode(), text)
+        self.assertEqual((machine.top, machine.calls_text([])), (0, b"log 2\n"))
+        other = opened("a 10\nb 20\n")
+        many = [*calls, *[add.call(a, 1)] * LONG]
+        self.assertEqual(other.apply(machine.calls_text(many)), machine.run(many))
+        self.assertEqual(other.digest(), machine.digest())
+        first = machine.prepare(ADD.replace("procedure 2", "procedure 1")).call("a", 1)
+        self.assertEqual(machine.calls_text([first])[:6], b"log 1\n")
+        for mixed in ([first, calls[0]], [calls[0]] * BATCH + [first]):
+            with self.assertRaisesRegex(ValueError, "two editions"):
+                machine.calls_text(mixed)
+        for calls, kind in (([5], TypeError), (5, TypeError), ([opened().prepare(ADD).call("a", 1)], ValueError)):
+            with self.assertRaises(kind):
+                machine.calls_text(calls)
+
+    def test_compaction(self):
+        machine = opened("a 1\nb 2\n")
+        add, key = machine.prepare(ADD), machine.key("a")
+        drop = machine.prepare("procedure 2\nkey k\nreads\nwrites k\ndrop k\nend\n")
+        machine.run([add.call("a", 1)] * 10 + [add.call(f"made_up_{number}", 1) for number in range(500)] + [drop.call("b")])
+        before = machine.counts()
+        self.assertEqual((before.floor, before.top, before.waiting, before.left), (0, 511, 0, 2 ** 32 - 1 - 511))
+        store, digest = machine.store_rows(), machine.digest()
+        machine.compact()
+        after = machine.counts()
+        self.assertEqual((machine.floor, machine.top, after.versions, after.names), (511, 511, 1, 1))
+        self.assertLess(after.bytes, before.bytes)
+        self.assertEqual((machine.store_rows(), machine.digest()), (store, digest))
+        with self.assertRaises(bohm.TrimmedError):
+            machine.value_at("a", 510)
+        # Keys that were looked up, procedures and calls are as good as before.
+        self.assertEqual([str(reply) for reply in (add(key, 1), *machine.run([add.call(key, 1), drop.call("a")]), *machine.run_many(add, [key], [1]))],
+                         ["512 commit 12", "513 commit 13", "514 commit", "515 abort absent 2"])
+        machine.compact()
+        self.assertEqual((machine.store_rows(), machine.counts().names), (b"", 0))
+
+    def test_names_held(self):
+        """A key that only an aborted call named takes memory until the machine is compacted."""
+        machine = opened("a 1\n")
+        add = machine.prepare(ADD)
+        self.assertEqual(machine.counts().names, 1)
+        add("made_up", 1)
+        self.assertEqual(machine.counts().names, 2)
+        machine.compact()
+        self.assertEqual(machine.counts().names, 1)
 
 
 if __name__ == "__main__":

@@ -40,9 +40,24 @@ WORKS = {
     "making a call": lambda trial: trial.add.call("b", 1).keys,
     "reading": lambda trial: trial.machine["a"] is trial.machine.value_at("a") is trial.machine.digest(),
     "snapshot": lambda trial: bohm.Machine(trial.machine.snapshot(), library=LIBRARY).top,
+    "rows": lambda trial: bohm.Machine.open_rows(trial.machine.store_rows(), library=LIBRARY).top,
+    "compacting": lambda trial: trial.machine.compact(),
+    "text of calls": lambda trial: trial.machine.calls_text([*trial.calls[:2], *trial.names[:2]]),
     # Not by `prepare`, whose closures crash CPython 3.12 and 3.13 if they can't be allocated.
     "preparing": lambda trial: bohm._core.Procedure()._prepare(trial.machine, ADD.encode()),
+    "a report": lambda trial: refused(trial.machine, b"procedure 1\nkey k\nreads k\nwrites k\nset k += 1\nshow other\nend\n"),
+    "a statement": lambda trial: trial.add.statement(2),
 }
+
+
+def refused(machine, text):
+    """Prepares a procedure that is refused."""
+    try:
+        bohm._core.Procedure()._prepare(machine, text)
+    except bohm.RefusedError as refusal:
+        assert refusal.line == "refused: line 5"
+
+
 # By ctypes these take too long to be tried hundreds of times.
 LONG_WORKS = ("many calls", "many calls by names", "columns", "segment")
 

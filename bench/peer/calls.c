@@ -1,5 +1,6 @@
-/* The executor by calls of a prepared procedure, with replies as rows. The past below the last segment is dropped. With
- * BY_HANDLES defined, each account is looked up before the first call, and named by its handle. */
+/* The executor by calls of a prepared procedure: a list of them for each segment, with replies as rows, or with ONE_BY_ONE 1
+ * each call by itself. The past below the last segment is dropped. With BY_HANDLES defined, each account is looked up before
+ * the first call, and named by its handle. */
 #include "peer.h"
 
 #include "../../crates/bohm_c/include/bohm.h"
@@ -7,6 +8,10 @@
 #include <stdio.h>
 #include <stdlib.h>
 #include <string.h>
+
+#ifndef ONE_BY_ONE
+#define ONE_BY_ONE 0
+#endif
 
 static const char *transfer_text = "procedure 1\n"
                                    "key from\n"
@@ -46,17 +51,27 @@ void peer_open(void) {
 /* The handles of the accounts, by their numbers. */
 static uint32_t *handles;
 
+static uint32_t handle_of(const uint8_t *name, size_t size, uint32_t *handle) {
+    return ONE_BY_ONE ? bohm_machine_key(&machine, name, size, handle) : bohm_key_handle(&calls, name, size, handle);
+}
+
 /* Looks up each account of the store's lines. */
 static void look_up(const char *line, const char *end, size_t count) {
     check((handles = malloc((count + 1) * sizeof *handles)) != NULL, "no memory");
     for (size_t i = 0; line < end; line = strchr(line, '\n') + 1)
-        done(bohm_key_handle(&calls, (const uint8_t *)line, strcspn(line, " "), &handles[i++]));
+        done(handle_of((const uint8_t *)line, strcspn(line, " "), &handles[i++]));
 }
 
 static uint32_t push(const transfer *it) {
     uint32_t keys[] = {handles[it->payer_number], handles[it->payee_number]};
     int64_t amount = it->amount;
     return bohm_push_named(&calls, &by, keys, 2, &amount, 1);
+}
+
+static uint32_t call(const transfer *it, bohm_reply *reply, int64_t *shown) {
+    uint32_t keys[] = {handles[it->payer_number], handles[it->payee_number]};
+    int64_t amount = it->amount;
+    return bohm_call_named(&machine, &by, keys, 2, &amount, 1, reply, shown, BOHM_MOST_SHOWN);
 }
 #else
 static void look_up(const char *line, const char *end, size_t count) { (void)line, (void)end, (void)count; }
@@ -67,6 +82,12 @@ static uint32_t push(const transfer *it) {
     bohm_key keys[] = {key_of(it->payer), key_of(it->payee)};
     int64_t amount = it->amount;
     return bohm_push(&calls, &by, keys, 2, &amount, 1);
+}
+
+static uint32_t call(const transfer *it, bohm_reply *reply, int64_t *shown) {
+    bohm_key keys[] = {key_of(it->payer), key_of(it->payee)};
+    int64_t amount = it->amount;
+    return bohm_call(&machine, &by, keys, 2, &amount, 1, reply, shown, BOHM_MOST_SHOWN);
 }
 #endif
 
@@ -90,8 +111,16 @@ static uint32_t top(void) {
     return last;
 }
 
-void peer_run(transfer *transfers, size_t count) {
-    static uint32_t ran;
+static void run_each(transfer *transfers, size_t count) {
+    bohm_reply reply;
+    int64_t shown[BOHM_MOST_SHOWN];
+    for (size_t i = 0; i < count; i++) {
+        done(call(&transfers[i], &reply, shown));
+        transfers[i].is_done = reply.outcome == BOHM_COMMIT;
+    }
+}
+
+static void run_list(transfer *transfers, size_t count) {
     bohm_reply_rows rows = BOHM_NO_ROWS;
     bohm_values values = BOHM_NO_VALUES;
     for (size_t i = 0; i < count; i++) done(push(&transfers[i]));
@@ -100,6 +129,12 @@ void peer_run(transfer *transfers, size_t count) {
     for (size_t i = 0; i < count; i++) transfers[i].is_done = rows.at[i].outcome == BOHM_COMMIT;
     bohm_free_rows(&rows, &values);
     done(bohm_clear_calls(&calls));
+}
+
+void peer_run(transfer *transfers, size_t count) {
+    static uint32_t ran;
+    if (ONE_BY_ONE) run_each(transfers, count);
+    else run_list(transfers, count);
     done(bohm_trim(&machine, ran += (uint32_t)count));
 }
 

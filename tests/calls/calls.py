@@ -1,5 +1,6 @@
 """Runs the calls of a script of tests/procedures: `calls.py LIBRARY < SCRIPT` writes their answer. Calls name their keys by
-texts, by looked-up keys, and by both in turn."""
+texts, by looked-up keys, and by both in turn. In turn a segment runs as a list, is a text that a second machine applies, and
+runs call by call. The machine is compacted now and then."""
 import sys
 from pathlib import Path
 
@@ -16,8 +17,8 @@ def named(machine, known, turn, names):
 
 
 def main(library, lines):
-    library, machine = bohm.load(library), None
-    store, text, procedures, calls, known, turn = "", "", [], [], {}, 0
+    library, machine, second = bohm.load(library), None, None
+    store, text, procedures, calls, known, turn, segment = "", "", [], [], {}, 0, 0
     for line in lines:
         word, _, rest = line.rstrip("\n").partition(" ")
         if word == "store":
@@ -26,6 +27,7 @@ def main(library, lines):
             text += rest + "\n"
         elif word == "prepare":
             machine = machine or bohm.Machine(store, library=library)
+            second = second or bohm.Machine.open_rows(machine.store_rows(), library=library)
             procedures.append(machine.prepare(text))
             text = ""
         elif word == "push":
@@ -34,12 +36,14 @@ def main(library, lines):
             values = [int(value) for value in words[int(count) + 1:]]
             calls.append(procedures[int(number)].call(*keys, *values))
         elif word == "run":
-            # One call is made through the procedure itself.
-            replies = machine.run(calls) if len(calls) != 1 else [calls[0].procedure(*calls[0].keys, *calls[0].values)]
-            sys.stdout.writelines(f"{reply}\n" for reply in replies)
-            calls = []
+            told = second.apply(machine.calls_text(calls))
+            replies = machine.run(calls) if segment % 3 < 2 else [call.procedure(*call.keys, *call.values) for call in calls]
+            sys.stdout.writelines(f"{reply}\n" for reply in (told if segment % 3 == 1 else replies))
+            if segment % 3:
+                machine.compact()
+            calls, segment = [], segment + 1
     again = bohm.Machine(machine.snapshot(), machine.top, library=library)
-    assert again.digest() == machine.digest()
+    assert again.digest() == machine.digest() == second.digest()
     try:
         machine.prepare("procedure 1\nkey k\nreads k\nwrites\nend").call(again.key("a"))
     except ValueError:

@@ -1,5 +1,6 @@
 //! Runs the calls of a script of tests/procedures: `calls < SCRIPT` writes their answer. Calls name their keys by handles and
-//! by texts in turn.
+//! by texts in turn. In turn a segment runs as a list, is a text that a second machine applies, and runs call by call. The
+//! machine is compacted now and then.
 use bohm::{Calls, Edition, KeyHandle, Machine, Procedure};
 use std::collections::HashMap;
 use std::error::Error;
@@ -27,10 +28,29 @@ fn handles(calls: &mut Calls, known: &mut HashMap<String, KeyHandle>, keys: &[&s
     Ok(found)
 }
 
+/// A call of a segment: the number of the procedure, keys and values.
+type Pushed = (usize, Vec<String>, Vec<i64>);
+
+/// Runs calls one by one, and returns the replies' lines.
+fn run_singly(machine: &mut Machine, procedures: &[Procedure], pushed: &[Pushed]) -> Result<String, bohm::Error> {
+    let mut lines = String::new();
+    for (place, (number, keys, values)) in pushed.iter().enumerate() {
+        let reply = if place % 2 == 0 {
+            machine.call(&procedures[*number], keys, values)?
+        } else {
+            let named = keys.iter().map(|key| machine.key(key)).collect::<Result<Vec<_>, _>>()?;
+            machine.call_named(&procedures[*number], &named, values)?
+        };
+        lines += &format!("{reply}\n");
+    }
+    Ok(lines)
+}
+
 fn main() -> Result<(), Box<dyn Error>> {
     let (mut store, mut text) = (String::new(), String::new());
     let (mut procedures, mut out) = (Vec::new(), stdout().lock());
     let (mut machine, mut calls, mut known) = (None, Calls::new(Edition::Two)?, HashMap::new());
+    let (mut second, mut pushed, mut segment) = (None, Vec::<Pushed>::new(), 0);
     let mut edition = Edition::Two;
     for line in stdin().lines() {
         let line = line?;
@@ -42,6 +62,7 @@ fn main() -> Result<(), Box<dyn Error>> {
             "prepare" => {
                 if machine.is_none() {
                     let opened = machine.insert(Machine::open(&store, 0)?);
+                    second = Some(Machine::open_rows(&opened.store_rows(0)?, 0)?);
                     if edition == Edition::One {
                         // A list of edition 2 has its own names.
                         calls = opened.calls(edition)?;
@@ -57,10 +78,18 @@ fn main() -> Result<(), Box<dyn Error>> {
                 } else {
                     calls.push(&procedures[number], &keys, &values)?;
                 }
+                pushed.push((number, keys.into_iter().map(String::from).collect(), values));
             }
             "run" => {
-                let machine = machine.as_mut().ok_or("no procedure")?;
-                write!(out, "{}", machine.run(&calls)?)?;
+                let (machine, second) = (machine.as_mut().ok_or("no procedure")?, second.as_mut().ok_or("no procedure")?);
+                let told = second.apply(calls.text()?)?.to_string();
+                let lines = if segment % 3 < 2 { machine.run(&calls)?.to_string() } else { run_singly(machine, &procedures, &pushed)? };
+                write!(out, "{}", if segment % 3 == 1 { told } else { lines })?;
+                if segment % 3 > 0 {
+                    machine.compact()?;
+                }
+                segment += 1;
+                pushed.clear();
                 calls.clear();
             }
             _ => (),
@@ -70,9 +99,10 @@ fn main() -> Result<(), Box<dyn Error>> {
     let top = machine.top();
     let snapshot = machine.store_at(top)?;
     assert_eq!(Machine::open(&snapshot, top)?.digest(top)?, machine.digest(top)?);
+    assert_eq!(second.ok_or("no procedure")?.digest(top)?, machine.digest(top)?);
     let stranger = Calls::new(Edition::One)?.key("a")?;
     let refused = calls.push_named(&procedures[0], &[stranger], &[]);
-    assert!(matches!(refused, Err(bohm::Error::OtherList)), "another list's handle is taken");
+    assert_eq!(refused, Err(bohm::Error::OtherOwner), "another list's handle is taken");
     write!(out, "--\n{}", &snapshot.as_str()[6..])?;
     Ok(())
 }
