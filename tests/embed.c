@@ -355,6 +355,32 @@ static long rows_refused(long from, long to) {
     return asked_for;
 }
 
+/* How many allocations it takes to return the replies of `count` transactions, most of which show a value. */
+static long taking(uint32_t count, int as_text) {
+    bohm_machine machine = {0};
+    bohm_bytes out = BOHM_NO_BYTES;
+    bohm_reply_rows rows = BOHM_NO_ROWS;
+    bohm_values values = BOHM_NO_VALUES;
+    text segment = segment_behind(0, count);
+    open_behind(&machine, 0);
+    hold(bohm_apply_held(&machine, bytes_of(segment), segment.len, &out) == BOHM_DONE, "it isn't run");
+    refuse(-1, -1);
+    uint32_t status = as_text ? bohm_replies(&machine, &out) : bohm_rows(&machine, &rows, &values);
+    long asked_for = relent();
+    hold(status == BOHM_DONE, "no replies");
+    if (as_text) take(now, &out, replies_behind(0, count));
+    else check_rows(&rows, &values, 0, count);
+    bohm_close(&machine);
+    free(segment.at);
+    return asked_for;
+}
+
+/* Replies have room for all values that they show, up front: as many allocations for many replies as for few. */
+static void room_for_shows(void) {
+    now = "room for shown values";
+    for (int as_text = 0; as_text <= 1; as_text++) hold(taking(4096, as_text) == taking(8, as_text), "allocations grow with the replies");
+}
+
 /* Each outcome, and statuses of held segments. */
 static void outcomes(void) {
     now = "outcomes";
@@ -901,6 +927,7 @@ int main(void) {
     common_statements();
     arguments();
     outcomes();
+    room_for_shows();
     seeds();
     without_memory();
     digests();
