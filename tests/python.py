@@ -515,6 +515,7 @@ class Habits(unittest.TestCase):
             a, b = machine.key("a").handle, machine.key("b").handle
             replies = machine.run_many(transfer, array(kind, [a, b, a]), array(kind, [b, b, b]), array(number, [3, 9, 8]))
             self.assertEqual([str(reply) for reply in replies], ["1 commit 7 23", "2 commit 23 23", "3 abort need 3"])
+            self.assertEqual(replies.lines(), ["1 commit 7 23", "2 commit 23 23", "3 abort need 3"])
         replies = opened("a 10\nb 20\n")
         transfer = replies.prepare(TRANSFER)
         self.assertEqual([str(reply) for reply in replies.run_many(transfer, ["a", "b", "a"], [replies.key("b"), "a", b"b"], [3, 16, 30])],
@@ -640,6 +641,19 @@ class Segments(unittest.TestCase):
         for top in (-1, 2 ** 32):
             with self.assertRaises(ValueError):
                 opened(top=top)
+
+    def test_lines(self):
+        """The lines of replies are those that each has by itself, whatever it shows, and however it ended."""
+        machine = opened(f"a {-2 ** 63}\n", top=2 ** 32 - LONG - 9)
+        shows = "show a\n" * 15
+        endings = ["", "need a > 0\n", "fail\n", "show gone\n", "show a - 1\n"]
+        text = "log 2\n" + "".join(f"txn\nreads a gone\nwrites\n{shows}{endings[number % 5]}end\n" for number in range(LONG))
+        replies = machine.apply(text)
+        self.assertEqual(replies.lines(), [str(reply) for reply in replies])
+        self.assertEqual(replies.lines()[0], " ".join([f"{2 ** 32 - LONG - 8} commit", *[str(-2 ** 63)] * 15]))
+        self.assertEqual({line.split(" ", 1)[1] for line in replies.lines()[1:5]},
+                         {"abort need 16", "abort fail 16", "abort absent 16", "abort range 16"})
+        self.assertEqual(machine.run([]).lines(), [])
 
     def test_past(self):
         machine = opened("a 0\n")

@@ -40,10 +40,13 @@ def read(value: bytes) -> Union[Batch, Rules, Skipped]:
     number, rest = int(head[2]), value[head.end():]
     if head[1] == b"rules":
         return Skipped("shape") if rest else Rules(number)
-    texts = rest.decode("latin-1").split("\0")
+    text = rest.decode("latin-1")
+    texts = text.split("\0")
     if len(texts) > MOST:
         return Skipped("large")
-    return Batch(number, [text if text.endswith("\n") else text + "\n" for text in texts])
+    # A sequencer's texts all have their last newlines.
+    are_whole = text.endswith("\n") and text.count("\n\0") == len(texts) - 1
+    return Batch(number, texts if are_whole else [text if text.endswith("\n") else text + "\n" for text in texts])
 
 
 def texts_of(value: bytes, rules: int) -> Optional[List[str]]:

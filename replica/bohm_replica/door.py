@@ -4,17 +4,17 @@ import json
 import re
 import time
 from collections import Counter
-from typing import TYPE_CHECKING, Callable, Dict, List, Optional, Tuple, Union
+from typing import TYPE_CHECKING, Callable, Dict, List, Optional, Sequence, Tuple, Union
 from urllib.parse import parse_qs
 
 from . import checkpoints, status
 from .access import NEEDED, User
 from .batches import MOST as MOST_TEXTS
 from .bohm_of import bohm
-from .etcd import Behind, Refused, Rewound, Unreachable
+from .etcd import Behind, Refused, Rewound, TooLarge, Unreachable
 from .http_server import JSON, TEXT, Connection, Given, Later, Request, Response, Site, refusal
 from .log import Log
-from .sequencer import Answered, Busy
+from .sequencer import Busy
 
 if TYPE_CHECKING:
     from .replica import Replica
@@ -31,6 +31,9 @@ PATHS = ("/value/KEY, /store, /digest (?at=N, ?fresh=1), /answer/ID, /status, /m
 # Seconds after which a client that was refused for too much may try again.
 LATER = "Retry-After: 1\r\n"
 LATE = refusal(503, "no answer yet: the entry may run later, so send it again with its id", LATER)
+# A call as `entries.read` takes it, with its last newline or without, and a line with its newline.
+CALL = re.compile(f"call (?:#[!-~]{{1,64}} )?{entries.NAME}(?: [!-~]+)*\n?".encode())
+LINE = re.compile("[^\n]*\n")
 
 
 class Bad(Exception):
@@ -41,11 +44,35 @@ class Bad(Exception):
         self.status, self.heads = status, heads
 
 
+class Waiting(Later):
+    """Entries of a request, which wait for their answers."""
+
+    __slots__ = ("door", "segment", "user", "texts", "size", "begun")
+
+    def __init__(self, door: "Door", segment: str, user: Optional[User], texts: Sequence[str]) -> None:
+        super().__init__(door.wait, LATE)
+        self.door, self.segment, self.user, self.begun = door, segment, user, time.monotonic()
+        self.texts = texts
+        self.size = (len(texts[0]) if len(texts) == 1 else sum(map(len, texts))) + len(texts)
+
+    def take(self, revision: int, answers: Sequence[str], now: float) -> None:
+        if self.user:
+            self.door.release(self.user, len(self.texts))
+        self.door.replica.figures.waits.add(now - self.begun)
+        self.give(answered(self.segment, revision, answers))
+
+    def fail(self, fault: Exception) -> None:
+        if self.user:
+            self.door.release(self.user, len(self.texts))
+        self.give(failure(fault))
+
+
 class Door(Site):
     """The door of a replica."""
 
     def __init__(self, replica: "Replica") -> None:
         self.replica = replica
+        self.wait: float = replica.options.get("wait")
         self.whole = asyncio.Semaphore(2)
         # Entries of users that wait for an answer.
         self.waiting: Counter[str] = Counter()
@@ -125,21 +152,14 @@ class Door(Site):
         refused = self.exceeds(user, len(texts)) if user else None
         if refused:
             return refused
-        later = Later(self.replica.options.get("wait"), LATE)
-        begun = time.monotonic()
-
-        def take(found: Union[Answered, Exception]) -> None:
-            if user:
-                self.release(user, len(texts))
-            later.give(lambda: self.answered(request.segment, found, begun))
-
+        waiting = Waiting(self, request.segment, user, texts)
         try:
-            self.replica.sequencer.submit(texts, take)
+            self.replica.sequencer.submit(waiting)
         except Busy as busy:
             return refusal(429, str(busy), LATER)
         if user:
             self.waiting[user.name] += len(texts)
-        return later
+        return waiting
 
     def release(self, user: User, count: int) -> None:
         self.waiting[user.name] -= count
@@ -148,16 +168,20 @@ class Door(Site):
 
     def texts_of(self, request: Request, body: bytes) -> Union[List[str], Response]:
         """The entries of a body, or why it is refused."""
-        if b"\0" in body:
-            raise Bad(400, "an entry has no NUL")
         text = body.decode("latin-1")
         if not text.endswith("\n"):
             text += "\n"
+        if request.segment == "call" and CALL.fullmatch(body):
+            return [text]
+        if "\0" in text:
+            raise Bad(400, "an entry has no NUL")
         if request.segment == "batch":
-            texts = [*entries.split(text)]
+            # Where each line is a call, each is an entry.
+            are_calls = text.startswith("call ") and text.count("\ncall ") == text.count("\n") - 1
+            texts = LINE.findall(text) if are_calls else [*entries.split(text)]
             if not 0 < len(texts) <= MOST_TEXTS:
                 raise Bad(413, f"a batch has 1 to {MOST_TEXTS} entries")
-            if not all(each.startswith("call ") for each in texts) and not self.replica.access.may(request, "define"):
+            if not are_calls and not all(each.startswith("call ") for each in texts) and not self.replica.access.may(request, "define"):
                 raise Bad(403, "only calls, without the role define")
             return texts
         # What is never accepted takes no place in the log.
@@ -167,20 +191,6 @@ class Door(Site):
         if isinstance(found[1], entries.Refused):
             return refusal(400, str(found[1]))
         return [text]
-
-    def answered(self, segment: str, found: Union[Answered, Exception], begun: float) -> Response:
-        """The answer to entries that have run, or that nothing came of."""
-        if isinstance(found, Refused):
-            return refusal(507 if "space" in str(found) else 503, f"etcd refused the entry: {found}", LATER)
-        if isinstance(found, Exception):
-            return refusal(503, str(found), LATER)
-        self.replica.figures.waits.add(time.monotonic() - begun)
-        heads = f"Bohm-Revision: {found.revision}\r\n"
-        if segment == "batch":
-            return Response(200, "".join([f"{answer}\n" for answer in found.answers]).encode(), TEXT, heads)
-        answer = found.answers[0]
-        status = 200 if not answer.startswith("refused") else 409 if answer == str(entries.TAKEN) else 400
-        return Response(status, f"{answer}\n".encode(), TEXT, heads)
 
     # Reads.
 
@@ -251,6 +261,25 @@ class Door(Site):
             return refusal(503, str(fault), LATER)
         except Bad as bad:
             return refusal(bad.status, str(bad), bad.heads)
+
+
+def failure(fault: Exception) -> Response:
+    """What is said where there are no answers."""
+    if isinstance(fault, TooLarge):
+        return refusal(413, f"etcd takes no entry of this size: send less at once ({fault})")
+    if isinstance(fault, Refused):
+        return refusal(507 if "space" in str(fault) else 503, f"etcd refused the entry: {fault}", LATER)
+    return refusal(503, str(fault), LATER)
+
+
+def answered(segment: str, revision: int, answers: Sequence[str]) -> Response:
+    """The answer to entries that have run."""
+    heads = f"Bohm-Revision: {revision}\r\n"
+    if segment == "batch":
+        return Response(200, "\n".join([*answers, ""]).encode(), TEXT, heads)
+    answer = answers[0]
+    status = 200 if not answer.startswith("refused") else 409 if answer == str(entries.TAKEN) else 400
+    return Response(status, f"{answer}\n".encode(), TEXT, heads)
 
 
 def json_of(found: object) -> Response:

@@ -12,8 +12,8 @@ from .ways import Tls
 
 # Seconds: for one try of a request, at first and at most, and between two tries.
 TRY, SLOWEST, PAUSE = 2.0, 20.0, 0.05
-# Seconds that a request may take with all its tries.
-PATIENCE = 60.0
+# Seconds that a request may take with all its tries, and without a word of a watch until that is told.
+PATIENCE, SILENCE = 60.0, 3.0
 
 Way = Union[ways.Grpc, ways.Gateway]
 
@@ -24,6 +24,10 @@ class Unreachable(Exception):
 
 class Refused(Exception):
     """etcd refuses the request, whoever of its members is asked: rights that are missing, no space."""
+
+
+class TooLarge(Refused):
+    """etcd takes no request of this size (`--max-request-bytes`)."""
 
 
 class Compacted(Exception):
@@ -139,8 +143,12 @@ class Etcd:
     def judge(self, fault: Fault) -> None:
         """Raises what no other try mends. Otherwise the next member is to be tried."""
         words = str(fault)
+        is_large = "request is too large" in words or "message larger than max" in words
         kind = {DEADLINE: "deadline", UNAVAILABLE: "unavailable", EXHAUSTED: "exhausted"}.get(fault.code, "refused")
+        kind = "large" if is_large else kind
         self.faults[kind] = self.faults.get(kind, 0) + 1
+        if is_large:
+            raise TooLarge(words) from fault
         if fault.code == PASSED:
             raise Compacted(words) from fault
         if fault.code == UNAUTHENTICATED or "auth token" in words or self.token == "" and "user name is empty" in words:
@@ -217,21 +225,34 @@ class Etcd:
         said = await self.ask("range", {"key": start, "range_end": end, "limit": limit, "revision": revision})
         return said.get("kvs", []), bool(said.get("more"))
 
-    async def watch(self, first: int) -> AsyncIterator[List[Message]]:
-        """The changes under the prefix from a revision on, as one member sends them. Ends by Fault, or Compacted."""
+    async def watch(self, first: int, waits_for: Optional[ways.WaitsFor] = None) -> AsyncIterator[Optional[List[Message]]]:
+        """The changes under the prefix from a revision on, as one member sends them, all that have come together; nothing after
+        some seconds of silence. Those that nobody waits for come some milliseconds later, together. Ends by Fault, or
+        Compacted."""
         request = {"key": self.keys.prefix, "range_end": end_of(self.keys.prefix), "start_revision": first}
-        stream = self.way().watch({"create_request": request}, await self.entitled(TRY))
+        stream = self.way().watch({"create_request": request}, await self.entitled(TRY), SILENCE, waits_for)
         try:
-            async for said in stream:
-                self.check_cluster(said)
-                self.heard = time.monotonic()
-                if said.get("canceled"):
-                    if said.get("compact_revision"):
-                        raise Compacted(f"etcd is compacted up to revision {said['compact_revision']}")
-                    raise Fault(UNAVAILABLE, said.get("cancel_reason", "the watch is cancelled"))
-                yield said.get("events", [])
+            async for answers in stream:
+                if answers:
+                    self.heard = time.monotonic()
+                yield [event for said in answers for event in self.events_of(said)] if answers else None
         finally:
             await stream.aclose()  # type: ignore[attr-defined]
+
+    def hurry(self) -> None:
+        """Somebody waits for changes that a watch may hold back."""
+        for way in self.open.values():
+            way.hurry()
+
+    def events_of(self, said: Message) -> List[Message]:
+        """The changes in an answer to a watch. Raises Fault, or Compacted, where that has ended."""
+        self.check_cluster(said)
+        if said.get("canceled"):
+            if said.get("compact_revision"):
+                raise Compacted(f"etcd is compacted up to revision {said['compact_revision']}")
+            raise Fault(UNAVAILABLE, said.get("cancel_reason", "the watch is cancelled"))
+        events: List[Message] = said.get("events", [])
+        return events
 
 
 def entry_of(keys: Keys, kv: Message) -> Optional[Entry]:
@@ -242,4 +263,4 @@ def entry_of(keys: Keys, kv: Message) -> Optional[Entry]:
     return Entry(kv["mod_revision"], *named, kv["key"], kv.get("value", b""))
 
 
-__all__ = ["NO_FENCE", "Behind", "Compacted", "Etcd", "Refused", "Rewound", "Taken", "Told", "Unreachable", "entry_of"]
+__all__ = ["NO_FENCE", "Behind", "Compacted", "Etcd", "Refused", "Rewound", "Taken", "Told", "TooLarge", "Unreachable", "entry_of"]

@@ -3,19 +3,19 @@ import asyncio
 import time
 from typing import AsyncIterator, Callable, Dict, List, NamedTuple, Optional, Tuple
 
-from .etcd import Behind, Compacted, Etcd, Unreachable, entry_of
+from .etcd import SILENCE, Behind, Compacted, Etcd, Unreachable, entry_of
 from .keys import end_of
 from .messages import Message
 from .position import Entry, Position
-from .tasks import cancelled
 from .grpc import Fault
+from .ways import WaitsFor
 
 # Revisions behind which a watch isn't asked: a member reads all that a watch is behind into its memory.
 NEAR = 64
 # The bytes of a page of keys, about.
 PAGE = 1 << 22
-# Seconds between two tries, and until a silent watch is reopened where there is something that it should have sent.
-PAUSE, SILENCE = 0.1, 3.0
+# Seconds between two tries.
+PAUSE = 0.1
 
 
 class News(NamedTuple):
@@ -26,13 +26,14 @@ class News(NamedTuple):
 
 
 class Stream:
-    """The entries of one sequencer behind a number, as of a revision, read by pages."""
+    """The entries of one sequencer behind a number and a revision, as of a later one, read by pages."""
 
-    def __init__(self, etcd: Etcd, name: str, number: int, revision: int) -> None:
+    def __init__(self, etcd: Etcd, name: str, number: int, after: int, revision: int) -> None:
         self.etcd, self.number, self.revision = etcd, number, revision
         self.start, self.end = etcd.keys.entry(name, number + 1), end_of(etcd.keys.sequencer(name))
         self.waiting: List[Entry] = []
-        self.limit, self.is_over, self.has_gap, self.last = 1, False, False, 0
+        # The revision of the last entry, or that up to which the log has run: what was put before it has been passed over.
+        self.limit, self.is_over, self.has_gap, self.last = 1, False, False, after
 
     async def head(self) -> Optional[Entry]:
         """The next entry. Raises Behind."""
@@ -81,8 +82,9 @@ async def first_version(etcd: Etcd, kv: Message) -> Message:
 class Follower:
     """Reads the log behind a position that its owner moves."""
 
-    def __init__(self, etcd: Etcd, position: Callable[[], Position], numbers: Callable[[], Dict[str, int]]) -> None:
-        self.etcd, self.position, self.numbers = etcd, position, numbers
+    def __init__(self, etcd: Etcd, position: Callable[[], Position], numbers: Callable[[], Dict[str, int]],
+                 waits_for: Optional[WaitsFor] = None) -> None:
+        self.etcd, self.position, self.numbers, self.waits_for = etcd, position, numbers, waits_for
         self.reconnects = 0
         # Revisions that were missing when it began to read; 0 once the watch sends.
         self.missing = 1
@@ -118,25 +120,19 @@ class Follower:
 
     async def watched(self, first: int) -> AsyncIterator[News]:
         """What a watch sends, until it is silent though there is something."""
-        stream = self.etcd.watch(first)
-        waiting: "Optional[asyncio.Task[List[Message]]]" = None
+        stream = self.etcd.watch(first, self.waits_for)
         quiet = time.monotonic()
         try:
-            while True:
-                waiting = waiting or asyncio.ensure_future(following(stream))
-                done, _ = await asyncio.wait({waiting}, timeout=SILENCE)
-                if done:
-                    events, waiting, quiet = waiting.result(), None, time.monotonic()
-                    self.missing = 0
-                    if news := self.sorted(events, first):
-                        yield news
+            async for events in stream:
+                if events is not None:
+                    self.missing, quiet = 0, time.monotonic()
+                    yield self.sorted(events, first)
                 elif (await self.etcd.confirm(self.position())).last > self.position().revision:
                     if time.monotonic() - quiet > 2 * SILENCE:
                         raise Fault(0, "the watch is silent")
         finally:
-            if waiting:
-                await cancelled({waiting})
             await stream.aclose()  # type: ignore[attr-defined]
+        raise Fault(0, "the watch ended")
 
     def sorted(self, events: List[Message], first: int) -> News:
         entries, others = [], []
@@ -146,15 +142,15 @@ class Follower:
             # A member that lags may send what was before the revision that was asked for.
             if entry and entry.revision >= first:
                 entries.append(entry)
-            elif not entry:
+            elif not entry and kv["key"] != self.etcd.keys.last:
                 others.append(event)
         entries.sort(key=order_of)
         return News(entries, others)
 
     async def pages(self, revision: int) -> AsyncIterator[List[Entry]]:
         """The entries behind the position, as of a revision, by their own revisions."""
-        numbers = self.numbers()
-        streams = [Stream(self.etcd, name, numbers.get(name, 0), revision) for name in await self.names(revision)]
+        numbers, after = self.numbers(), self.position().revision
+        streams = [Stream(self.etcd, name, numbers.get(name, 0), after, revision) for name in await self.names(revision)]
         heads = [(order_of(head), stream) for stream in streams if (head := await stream.head())]
         while heads:
             heads.sort(key=lambda pair: pair[0])
@@ -182,10 +178,3 @@ class Follower:
             else:
                 start = key + b"\0"
 
-
-async def following(stream: AsyncIterator[List[Message]]) -> List[Message]:
-    """The next item, or the fault by which a stream ended."""
-    try:
-        return await stream.__anext__()
-    except StopAsyncIteration:
-        raise Fault(0, "the watch ended") from None

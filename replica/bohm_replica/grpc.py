@@ -5,7 +5,7 @@ import functools
 import ssl
 import struct
 import time
-from typing import Deque, Dict, List, Optional, Tuple
+from typing import Callable, Deque, Dict, List, Optional, Tuple
 from urllib.parse import unquote
 
 from . import hpack
@@ -24,6 +24,8 @@ SENT, TAKEN, FIRST, ROOM, PART, MOST = 1 << 14, 1 << 20, 65535, 1 << 24, 1 << 20
 # Seconds without a byte after which the other side is asked whether it is there, and until it is taken for lost. etcd ends a
 # connection that asks more often than each five seconds.
 QUIET, LOST = 6.0, 12.0
+# Seconds for which messages of a stream that nobody waits for are held back, so that they are taken together.
+HELD = 0.01
 # A connection's calls have odd numbers up to this one.
 LAST = (1 << 31) - 1024
 
@@ -60,6 +62,10 @@ class Call:
         self.unsent, self.window = b"", connection.first
         self.part = bytearray()
         self.messages: Deque[bytes] = collections.deque()
+        # By what is known whether somebody waits for a message; none where all are taken at once. Whether there is one, and whether
+        # what has come is held back.
+        self.waits_for: Optional[Callable[[bytes], bool]] = None
+        self.is_urgent = self.is_held = False
         self.fault: Optional[Fault] = None
         self.is_over = False
         # Bytes by which the other side's window has to grow.
@@ -69,6 +75,20 @@ class Call:
     def wake(self) -> None:
         if self.waiter and not self.waiter.done():
             self.waiter.set_result(None)
+
+    def came(self, message: bytes) -> None:
+        """Keeps a message until it is taken."""
+        self.messages.append(message)
+        if self.waits_for and not self.is_urgent:
+            self.is_urgent = self.waits_for(message)
+        if self.is_urgent or not self.is_held:
+            self.wake()
+
+    def hurry(self) -> None:
+        """Somebody waits for what is held back, or comes next."""
+        self.is_urgent = True
+        if self.messages:
+            self.wake()
 
     def end(self, fault: Optional[Fault] = None) -> None:
         self.is_over, self.fault = True, fault
@@ -88,8 +108,7 @@ class Call:
     def take(self, piece: bytes) -> None:
         """Takes a piece of messages."""
         if not self.part and len(piece) >= 5 and int.from_bytes(piece[1:5], "big") == len(piece) - 5 and not piece[0]:
-            self.messages.append(piece[5:])
-            self.wake()
+            self.came(piece[5:])
             return
         self.part += piece
         while len(self.part) >= 5:
@@ -98,9 +117,9 @@ class Call:
                 raise ValueError("a message is compressed, or too long")
             if len(self.part) < 5 + size:
                 return
-            self.messages.append(bytes(self.part[5:5 + size]))
+            message = bytes(self.part[5:5 + size])
             del self.part[:5 + size]
-            self.wake()
+            self.came(message)
 
     def grow(self, size: int) -> None:
         """Lets the other side send so much more, at a time when nothing waits to be taken."""
@@ -118,6 +137,34 @@ class Call:
             message = self.messages.popleft()
             self.grow(0)
             return message
+        if self.fault:
+            raise self.fault
+        return None
+
+    async def wait(self, seconds: float) -> None:
+        """Waits to be woken, or so long."""
+        self.waiter = self.connection.loop.create_future()
+        timer = self.connection.loop.call_later(seconds, self.wake)
+        try:
+            await self.waiter
+        finally:
+            timer.cancel()
+
+    async def all(self, silence: float) -> Optional[List[bytes]]:
+        """All messages that have come, as soon as there is one, or a little later where nobody waits for it; none of them after so
+        many seconds of silence. Nothing where the call has ended. Raises Fault."""
+        if not self.messages and not self.is_over:
+            await self.wait(silence)
+        if self.messages and self.waits_for and not self.is_urgent and not self.is_over:
+            self.is_held = True
+            await self.wait(HELD)
+            self.is_held = False
+        self.is_urgent = False
+        if self.messages or not self.is_over:
+            found = [*self.messages]
+            self.messages.clear()
+            self.grow(0)
+            return found
         if self.fault:
             raise self.fault
         return None

@@ -49,6 +49,13 @@ class Response(NamedTuple):
     closes: bool = False
 
 
+@functools.lru_cache(maxsize=HEADS_KEPT)
+def head_of(status: int, kind: str, size: int, heads: str, closes: bool) -> bytes:
+    """The head of an answer. Answers that are given together have much the same."""
+    return (f"HTTP/1.1 {status} {WORDS[status]}\r\nContent-Type: {kind}\r\nContent-Length: {size}\r\n{heads}"
+            f"{'Connection: close' * closes}{chr(13) + chr(10) if closes else ''}\r\n").encode("latin-1")
+
+
 def refusal(status: int, words: str, heads: str = "", closes: bool = False) -> Response:
     return Response(status, words.encode(errors="replace") + b"\n", TEXT, heads, closes)
 
@@ -62,11 +69,11 @@ class Later:
         self.seconds, self.late = seconds, late
         self.connection: "Optional[Connection]" = None
 
-    def give(self, make: "Callable[[], Response]") -> None:
+    def give(self, said: Response) -> None:
         """Answers, if the client still waits for it."""
         connection, self.connection = self.connection, None
         if connection:
-            connection.come(make)
+            connection.come(said)
 
 
 Given = Union[Response, Later, Awaitable[Response]]
@@ -127,8 +134,10 @@ class Connection(asyncio.Protocol):
         self.server, self.site = server, server.site
         self.buffer = bytearray()
         self.request: Optional[Request] = None
-        # The last head that was admitted, and the request that it is: a client's heads are much alike.
+        # The last head that was admitted, and the request that it is: a client's heads are much alike. The bytes of that head and
+        # its body, where they need no more than to be there; or 0.
         self.head: Tuple[bytes, Optional[Request]] = b"", None
+        self.whole = 0
         self.is_busy = self.is_closing = self.is_full = self.is_paused = False
         self.held = 0
         self.who: Optional[str] = None
@@ -158,8 +167,15 @@ class Connection(asyncio.Protocol):
             self.drained.set_exception(ConnectionResetError())
 
     def data_received(self, data: bytes) -> None:
-        if self in self.server.idle:
-            del self.server.idle[self]
+        idle = self.server.idle
+        if self in idle:
+            del idle[self]
+            head, request = self.head
+            if len(data) == self.whole and data.startswith(head) and request:
+                # A request like the last one, which came at once.
+                self.request, self.is_busy = request, True
+                self.begin(request, data[len(head):])
+                return
             self.set_deadline(HEADS)
         self.buffer += data
         if not self.is_busy:
@@ -191,6 +207,8 @@ class Connection(asyncio.Protocol):
                 return False
             if len(head) <= HEAD_KEPT:
                 self.head = head, request
+                is_plain = "transfer-encoding" not in request.heads and "expect" not in request.heads
+                self.whole = len(head) + request.length if request.length and is_plain else 0
         del self.buffer[:len(head)]
         said = self.site.admit_now(request) or self.server.admit(request)
         if said:
@@ -233,30 +251,25 @@ class Connection(asyncio.Protocol):
             self.respond(said)
 
     def begin(self, request: Request, body: bytes) -> None:
-        self.deadline = float("inf")
         try:
             given = self.site.answer(request, body, self)
         except Exception as fault:
             given = self.failed(fault)
-        if isinstance(given, Response):
-            self.respond(given)
-        elif isinstance(given, Later):
+        if isinstance(given, Later):
             self.later, given.connection = given, self
-            self.set_deadline(given.seconds)
+            self.deadline = time.monotonic() + given.seconds
+        elif isinstance(given, Response):
+            self.respond(given)
         else:
+            self.deadline = float("inf")
             self.task = asyncio.ensure_future(given)
             self.task.add_done_callback(self.finish)
 
-    def come(self, make: Callable[[], Response]) -> None:
+    def come(self, said: Response) -> None:
         """Answers what was to come."""
         self.later = None
-        if self.is_closing:
-            return
-        try:
-            said = make()
-        except Exception as fault:
-            said = self.failed(fault)
-        self.respond(said)
+        if not self.is_closing:
+            self.respond(said)
 
     def expire(self) -> None:
         """Ends what takes too long."""
@@ -287,9 +300,10 @@ class Connection(asyncio.Protocol):
         request = self.request
         closes = said.closes or not request or request.closes
         self.write(request.segment if request else "", said, closes)
-        self.release()
+        if self.held:
+            self.release()
         self.request, self.is_busy = None, False
-        self.set_deadline(TAKE if self.is_full else HEADS if self.buffer else self.server.longest_idle)
+        self.deadline = time.monotonic() + (TAKE if self.is_full else HEADS if self.buffer else self.server.longest_idle)
         if closes:
             self.close()
             return
@@ -305,10 +319,9 @@ class Connection(asyncio.Protocol):
         self.site.note(segment, said.status)
         if self.is_closing:
             return
-        body = b"" if self.request and self.request.method == "HEAD" else said.body
-        self.transport.write((f"HTTP/1.1 {said.status} {WORDS[said.status]}\r\nContent-Type: {said.kind}\r\n"
-                              f"Content-Length: {len(said.body)}\r\n{said.heads}{'Connection: close' * closes}"
-                              f"{chr(13) + chr(10) if closes else ''}\r\n").encode("latin-1") + body)
+        status, body, kind, heads, _ = said
+        head = head_of(status, kind, len(body), heads, closes)
+        self.transport.write(head if self.request and self.request.method == "HEAD" else head + body)
 
     def refuse(self, segment: str, said: Response) -> None:
         """Answers, and closes: what follows isn't read."""

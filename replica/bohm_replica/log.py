@@ -122,13 +122,13 @@ class Log:
         """Runs and stores entries with the position behind them."""
         texts = [text for planned in group for text in planned.texts]
         position = places.moved(self.position, [planned.entry for planned in group])._replace(rules=group[-1].rules)
-        defines = any(text.startswith("define") for text in texts)
+        defines = any(b"define " in planned.entry.value for planned in group)
         ran: List[Ran] = []
 
         def write(connection: sqlite3.Connection, answers: Sequence[Answer], requests: Sequence[Tuple[str, str]]) -> None:
             nonlocal position
             # Where each text was accepted with an id, its line is made already.
-            lines = [line for _, line in requests] if len(requests) == len(answers) else [*map(str, answers)]
+            lines = [line for _, line in requests] if len(requests) == len(answers) else bohm.replies.lines_of(answers)
             ran.extend(shared(group, lines))
             position = position._replace(answers=places.chained_answers(position.answers, (each.answers for each in ran)),
                                          requests=places.summed(position.requests, requests))

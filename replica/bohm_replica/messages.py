@@ -94,7 +94,17 @@ METHODS = {
 
 # Protobuf.
 
+class Written(NamedTuple):
+    """How a field is written: its tag, its kind, where `int` stands for all numbers, and whether it may come again."""
+
+    tag: bytes
+    kind: str
+    many: bool
+
+
 def varint(number: int) -> bytes:
+    if 0 <= number < 128:
+        return SMALL[number]
     number &= (1 << 64) - 1
     found = bytearray()
     while number > 127:
@@ -104,28 +114,35 @@ def varint(number: int) -> bytes:
     return bytes(found)
 
 
+SMALL = [bytes([number]) for number in range(128)]
+NUMBERS = ("int", "bool", *NAMED)
+WRITTEN = {kind: {name: Written(varint(field.number << 3 | (0 if field.kind in NUMBERS else 2)),
+                                "int" if field.kind in NUMBERS else field.kind, field.many) for name, field in has.items()}
+           for kind, has in MESSAGES.items()}
+
+
 def encoded(kind: str, message: Message) -> bytes:
     """A message as protobuf."""
     parts: List[bytes] = []
+    known = WRITTEN[kind]
     for name, given in message.items():
-        number, of, many = MESSAGES[kind][name]
+        tag, of, many = known[name]
         for value in given if many else (given,):
-            if of in ("int", "bool") or of in NAMED:
-                parts += (varint(number << 3), varint(int(value)))
+            if of == "int":
+                parts += (tag, varint(int(value)))
                 continue
             body = value if of == "bytes" else value.encode() if of == "text" else encoded(of, value)
-            parts += (varint(number << 3 | 2), varint(len(body)), body)
+            parts += (tag, varint(len(body)), body)
     return b"".join(parts)
 
 
-NUMBERED = {kind: {field.number: (name, field) for name, field in has.items()} for kind, has in MESSAGES.items()}
+# A field's name, its kind and whether it may come again, by its tag.
+READ = {kind: {field.number << 3 | (0 if field.kind in NUMBERS else 2): (name, field.kind, field.many) for name, field in has.items()}
+        for kind, has in MESSAGES.items()}
 
 
 def read_varint(text: bytes, at: int) -> Tuple[int, int]:
     """A number, and the offset behind it."""
-    byte = text[at]
-    if byte < 128:
-        return byte, at + 1
     found = shift = 0
     while True:
         byte = text[at]
@@ -139,7 +156,7 @@ def read_varint(text: bytes, at: int) -> Tuple[int, int]:
 def decoded(kind: str, text: bytes) -> Message:
     """The message that protobuf is. Raises ValueError or IndexError if it is none; unknown fields are passed over."""
     found: Message = {}
-    known, at, end = NUMBERED[kind], 0, len(text)
+    known, at, end = READ[kind], 0, len(text)
     while at < end:
         tag, at = (text[at], at + 1) if text[at] < 128 else read_varint(text, at)
         wire = tag & 7
@@ -154,26 +171,23 @@ def decoded(kind: str, text: bytes) -> Message:
             continue
         else:
             raise ValueError(f"no such kind of field: {tag}")
-        if tag >> 3 in known:
-            name, field = known[tag >> 3]
-            put_field(found, name, field, value)
+        if tag not in known:
+            continue
+        name, of, many = known[tag]
+        if of == "int":
+            if value >> 63:
+                value -= 1 << 64
+        elif of == "bool":
+            value = bool(value)
+        elif of == "text":
+            value = value.decode(errors="replace")
+        elif of != "bytes" and wire:
+            value = decoded(of, value)
+        if many:
+            found.setdefault(name, []).append(value)
+        else:
+            found[name] = value
     return found
-
-
-def put_field(found: Message, name: str, field: Field, value: Any) -> None:
-    of = field.kind
-    if of == "int":
-        value = value - (1 << 64) if value >= 1 << 63 else value
-    elif of == "bool":
-        value = bool(value)
-    elif of == "text":
-        value = value.decode(errors="replace")
-    elif of != "bytes" and of not in NAMED:
-        value = decoded(of, value)
-    if field.many:
-        found.setdefault(name, []).append(value)
-    else:
-        found[name] = value
 
 
 # JSON.

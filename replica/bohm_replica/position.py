@@ -70,9 +70,8 @@ def chained_answers(chain: str, answers: Iterable[Sequence[str]]) -> str:
 
 def summed(before: str, requests: Iterable[Tuple[str, str]]) -> str:
     """The sum with the hashes of more ids and their answers. It doesn't depend on their order."""
-    total = int(before, 16)
-    for request, answer in requests:
-        total += int.from_bytes(hashlib.sha256(f"{request} {answer}".encode()).digest(), "big")
+    hashed, number = hashlib.sha256, int.from_bytes
+    total = sum((number(hashed(f"{request} {answer}".encode()).digest(), "big") for request, answer in requests), int(before, 16))
     return f"{total % (1 << 256):064x}"
 
 

@@ -254,7 +254,7 @@ class Replica:
         self.duty = Duty(self.etcd, self.options.name, log, self.options.get("keep-entries"), say)
         self.end_clients(Unreachable("the log is followed anew"))
         self.sequencer = Sequencer(self.etcd, self.options.name, self.position, self.options.get("linger") / 1000)
-        self.follower = Follower(self.etcd, self.position, lambda: log.numbers)
+        self.follower = Follower(self.etcd, self.position, lambda: log.numbers, self.waits_for)
         parts: List[Awaitable[None]] = [self.take_all(log), self.look(), self.sequencer.run(), self.digests.run(), self.duty.run(),
                                         self.register(log)]
         tasks = {asyncio.ensure_future(part) for part in parts}
@@ -265,6 +265,10 @@ class Replica:
         finally:
             await cancelled(tasks)
             self.takes = False
+
+    def waits_for(self, changes: bytes) -> bool:
+        """Whether a client waits for changes of etcd: for an entry of its own, or for a read of all that there is."""
+        return bool(self.waiters) or self.sequencer is not None and self.sequencer.mark in changes
 
     async def take_all(self, log: Log) -> None:
         assert self.follower
@@ -345,6 +349,7 @@ class Replica:
         if self.position().revision < revision:
             waiter = Waiter(revision, asyncio.get_running_loop().create_future())
             self.waiters.append(waiter)
+            self.etcd.hurry()
             await asyncio.wait_for(waiter.future, max(0.001, end - time.monotonic()))
 
     async def last(self) -> int:

@@ -3,7 +3,7 @@ import asyncio
 import collections
 import secrets
 import time
-from typing import Callable, Deque, Dict, List, NamedTuple, Sequence, Union
+from typing import Callable, Deque, Dict, List, Protocol, Sequence
 
 from . import batches
 from .etcd import Etcd, Refused, Taken
@@ -21,23 +21,17 @@ class Busy(Exception):
     """So much waits that no more is taken."""
 
 
-class Answered(NamedTuple):
-    """The answers to texts, and the revision of the entry in which they were put."""
-
-    revision: int
-    answers: Sequence[str]
-
-
-# What takes the answers to texts, or the fault by which there are none.
-Taker = Callable[[Union[Answered, Exception]], None]
-
-
-class Sent(NamedTuple):
-    """Texts that wait for their answers, their bytes, and who takes these."""
+class Sent(Protocol):
+    """Texts that wait for their answers, and their bytes. One of the two calls ends it, once."""
 
     texts: Sequence[str]
     size: int
-    take: Taker
+
+    def take(self, revision: int, answers: Sequence[str], now: float) -> None:
+        """Takes the answers, the revision of the entry in which the texts were put, and the time."""
+
+    def fail(self, fault: Exception) -> None:
+        """Takes the fault by which there are no answers."""
 
 
 class Sequencer:
@@ -54,16 +48,18 @@ class Sequencer:
     def begin(self) -> None:
         """Takes a name that no other sequencer has, before or now."""
         self.name, self.number = f"{self.replica}.{secrets.token_hex(6)}", 0
+        # What each key of its entries has, and few others.
+        self.mark = f"/{self.name}/".encode()
 
-    def submit(self, texts: Sequence[str], take: Taker) -> None:
-        """Texts without a NUL, at most `MOST`, which are put together; `take` is called once, later. Raises Busy."""
-        size = sum(map(len, texts)) + len(texts)
-        if self.count + len(texts) > MOST_WAITING or self.size + size > LARGEST_WAITING:
+    def submit(self, sent: Sent) -> None:
+        """Texts without a NUL, at most `MOST`, which are put together. Raises Busy."""
+        count, size = self.count + len(sent.texts), self.size + sent.size
+        if count > MOST_WAITING or size > LARGEST_WAITING:
             raise Busy(f"{self.count} entries wait")
-        self.count += len(texts)
-        self.size += size
-        self.waiting.append(Sent(texts, size, take))
-        self.some.set()
+        self.count, self.size = count, size
+        self.waiting.append(sent)
+        if len(self.waiting) == 1:
+            self.some.set()
 
     def taken(self) -> List[Sent]:
         """What goes into the next entry."""
@@ -116,18 +112,18 @@ class Sequencer:
         if ran.skipped:
             self.end(group, Refused(f"the entry was skipped: {ran.skipped}"))
             return
-        at, revision, answers = 0, ran.entry.revision, ran.answers
+        self.forget(group)
+        at, revision, answers, now = 0, ran.entry.revision, ran.answers, time.monotonic()
         for sent in group:
-            self.forget(sent)
             end = at + len(sent.texts)
-            sent.take(Answered(revision, answers[at:end]))
+            sent.take(revision, answers[at:end], now)
             at = end
 
     def end(self, group: Sequence[Sent], fault: Exception) -> None:
         """Ends with a fault what was sent."""
+        self.forget(group)
         for sent in group:
-            self.forget(sent)
-            sent.take(fault)
+            sent.fail(fault)
 
     def end_all(self, fault: Exception) -> None:
         ended = [*self.waiting, *(sent for group in self.put.values() for sent in group)]
@@ -135,9 +131,9 @@ class Sequencer:
         self.put.clear()
         self.end(ended, fault)
 
-    def forget(self, sent: Sent) -> None:
-        self.count -= len(sent.texts)
-        self.size -= sent.size
+    def forget(self, group: Sequence[Sent]) -> None:
+        self.count -= sum([len(sent.texts) for sent in group])
+        self.size -= sum([sent.size for sent in group])
 
     def is_full(self) -> bool:
         """Whether so much waits that no batch may come."""

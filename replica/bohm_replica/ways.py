@@ -2,16 +2,19 @@
 import asyncio
 import json
 import ssl
-from typing import Any, AsyncIterator, Dict, NamedTuple, Optional, Tuple
+from typing import Any, AsyncIterator, Callable, Dict, List, NamedTuple, Optional, Tuple
 
 from . import grpc, http_client
 from .grpc import DEADLINE, FAILED, UNAVAILABLE, Fault
 from .messages import METHODS, Message, decoded, encoded, of_json, to_json
+from .tasks import cancelled
 
 # The most bytes of an answer.
 MOST = grpc.MOST
 # Seconds that a connection may take to be opened for a watch.
 OPENING = 5.0
+# Whether somebody waits for an answer of a watch, by its bytes.
+WaitsFor = Callable[[bytes], bool]
 
 
 class Tls(NamedTuple):
@@ -35,6 +38,7 @@ class Grpc:
         self.host, self.port = address_of(member)
         self.context = tls.context() if tls else None
         self.connection: Optional[grpc.Connection] = None
+        self.watching: Optional[grpc.Call] = None
         self.opening = asyncio.Lock()
 
     async def line(self, wait: float) -> grpc.Connection:
@@ -53,14 +57,23 @@ class Grpc:
         said = await line.ask(method.path, encoded(method.request, message), token, wait, not method.is_stream)
         return read_answer(method.answer, said)
 
-    async def watch(self, message: Message, token: Optional[str]) -> AsyncIterator[Message]:
+    async def watch(self, message: Message, token: Optional[str], silence: float,
+                    waits_for: Optional[WaitsFor] = None) -> AsyncIterator[List[Message]]:
+        """The answers of a watch, all that have come together; none of them after so many seconds of silence. Those that nobody
+        waits for are held back some milliseconds. Raises Fault."""
         line = await self.line(OPENING)
-        call = line.call(METHODS["watch"].path, encoded("Watch", message), token, False)
+        call = self.watching = line.call(METHODS["watch"].path, encoded("Watch", message), token, False)
+        call.waits_for = waits_for
         try:
-            while (said := await call.next()) is not None:
-                yield read_answer("WatchAnswer", said)
+            while (said := await call.all(silence)) is not None:
+                yield [read_answer("WatchAnswer", each) for each in said]
         finally:
             call.cancel()
+
+    def hurry(self) -> None:
+        """Somebody waits for what the watch holds back."""
+        if self.watching:
+            self.watching.hurry()
 
     async def close(self) -> None:
         if self.connection:
@@ -112,23 +125,48 @@ class Gateway:
         except (OSError, EOFError, ValueError, KeyError, IndexError) as error:
             raise Fault(UNAVAILABLE, f"{type(error).__name__}: {error}") from None
 
-    async def watch(self, message: Message, token: Optional[str]) -> AsyncIterator[Message]:
+    async def watch(self, message: Message, token: Optional[str], silence: float,
+                    waits_for: Optional[WaitsFor] = None) -> AsyncIterator[List[Message]]:
+        """As by gRPC, but that nothing is held back."""
         line = None
+        waiting: "Optional[asyncio.Task[bytes]]" = None
         try:
             line = await http_client.opened(self.host, self.port, self.context)
-            async for text in line.lines("POST", METHODS["watch"].gateway, self.heads(token), to_json("Watch", message), MOST):
+            texts = line.lines("POST", METHODS["watch"].gateway, self.heads(token), to_json("Watch", message), MOST)
+            while True:
+                waiting = waiting or asyncio.ensure_future(following(texts))
+                done, _ = await asyncio.wait({waiting}, timeout=silence)
+                if not done:
+                    yield []
+                    continue
+                text, waiting = waiting.result(), None
+                if not text:
+                    return
                 said = json.loads(text)
-                yield of_json("WatchAnswer", said["result"]) if "result" in said else fail(said)
+                yield [of_json("WatchAnswer", said["result"]) if "result" in said else fail(said)]
         except (OSError, EOFError, ValueError, KeyError, IndexError) as error:
             raise Fault(UNAVAILABLE, f"{type(error).__name__}: {error}") from None
         finally:
+            if waiting:
+                await cancelled({waiting})
             if line:
                 line.close()
+
+    def hurry(self) -> None:
+        """Nothing is held back."""
 
     async def close(self) -> None:
         for line in self.lines:
             line.close()
         self.lines = []
+
+
+async def following(texts: AsyncIterator[bytes]) -> bytes:
+    """The next text; an empty one behind the last."""
+    try:
+        return await texts.__anext__()
+    except StopAsyncIteration:
+        return b""
 
 
 def fail(said: Any) -> Message:

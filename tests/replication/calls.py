@@ -167,6 +167,64 @@ async def streams(member: Member) -> None:
     await member.frame(99)
 
 
+async def holds(member: Member) -> None:
+    """A stream's messages, of which some are waited for."""
+    _, _, number, _ = await member.frame(grpc.HEADERS)
+    member.send(grpc.HEADERS, grpc.END_HEADERS, number, BEGUN)
+    for text in (b"1", b"2", b"own 3"):
+        member.send(grpc.DATA, 0, number, message(text))
+        await member.writer.drain()
+        await asyncio.sleep(0.01)
+    await member.frame(grpc.PING)
+    member.send(grpc.DATA, 0, number, message(b"4"))
+    await member.frame(grpc.PING)
+    member.send(grpc.DATA, 0, number, message(b"5"))
+    await member.frame(grpc.PING)
+    member.send(grpc.DATA, 0, number, message(b"6"))
+    await member.frame(grpc.PING)
+    member.send(grpc.HEADERS, grpc.END_HEADERS | grpc.END, number, status(0))
+    await member.frame(99)
+
+
+async def check_held() -> None:
+    """What nobody waits for is taken with what somebody waits for, or once somebody does, or when its time is over, or the call."""
+    member, held = Member(holds), grpc.HELD
+    line = await grpc.opened("127.0.0.1", await member.start(), None, 5.0)
+
+    def go_on() -> None:
+        line.write(grpc.frame(grpc.PING, 0, 0, bytes(8)))
+
+    grpc.HELD = 1000.0
+    try:
+        call = line.call("/w", b"", None, False)
+        call.waits_for = lambda said: said.startswith(b"own")
+        assert await call.all(5.0) == [b"1", b"2", b"own 3"]
+        waiting = asyncio.ensure_future(call.all(5.0))
+        go_on()
+        while not call.is_held:
+            await asyncio.sleep(0.001)
+        call.hurry()
+        assert await waiting == [b"4"]
+        assert await call.all(0.001) == []
+        # What is waited for before it comes isn't held back, and nothing is taken until then.
+        waiting = asyncio.ensure_future(call.all(5.0))
+        await asyncio.sleep(0)
+        call.hurry()
+        await asyncio.sleep(0.01)
+        assert not waiting.done()
+        go_on()
+        assert await waiting == [b"5"]
+        grpc.HELD = 0.001
+        go_on()
+        assert await call.all(5.0) == [b"6"]
+        go_on()
+        assert await call.all(5.0) is None
+    finally:
+        grpc.HELD = held
+    line.close()
+    member.server.close()
+
+
 async def faulted(act: Awaitable[Any]) -> tuple[int, str]:
     try:
         await act
@@ -211,9 +269,10 @@ async def check_calls() -> None:
     assert (await faulted(call.next()))[0] == grpc.UNAVAILABLE
     await ended(member, line)
     assert (await faulted(grpc.opened("127.0.0.1", 1, None, 5.0)))[0] == grpc.UNAVAILABLE
+    await check_held()
 
 
 def check_grpc() -> str:
     check_headers()
     asyncio.run(asyncio.wait_for(check_calls(), 60))
-    return f"gRPC: headers of {len(WORDS) + 1} blocks, 6 members by scripts"
+    return f"gRPC: headers of {len(WORDS) + 1} blocks, 7 members by scripts"

@@ -16,6 +16,9 @@ from scene import Failed, Scene
 from stage import PYTHON, Child, ReplicaChild
 from trial import OPERATE, told
 
+# What somebody else puts in an entry's place.
+FOREIGN = b"batch 1\nhello"
+
 # Seconds that a fault lasts, and from its end to the next fault.
 LASTS, BETWEEN = (0.5, 4.5), (0.3, 2.0)
 # Seconds that a clock jumps forwards or back.
@@ -171,8 +174,10 @@ class ReplicaFaults(Faults):
         old, last = self.rng.choice(puts), puts[-1]
         far = last.key[:-4] + b"%04d" % ((int(last.key[-4:]) + self.rng.randrange(3, 99)) % 10_000)
         keys = [(b"bohm/digest/x/y", b"z"), (b"bohm/log/x", b"z"), (b"bohm/replica/\xff", b"["), (b"bohm/digest/r1", b"1 2 3 4"),
-                (old.key, b"batch 1\nhello"), (far, b"batch 1\nhello")]
+                (old.key, FOREIGN), (far, FOREIGN)]
         key, value = self.rng.choice(keys)
+        if key == far:
+            self.scene.foreign.append(key)
         told(self.scene.addresses, lambda etcd: etcd.put(key, value))
         self.scene.tell(f"somebody put {key!r}")
 

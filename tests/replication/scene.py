@@ -35,6 +35,8 @@ class Scene:
     story: list[str] = field(default_factory=list)
     fault: Exception | None = None
     known: dict[str, int] = field(default_factory=dict)
+    # Keys that somebody else put where an entry may be missing before them.
+    foreign: list[bytes] = field(default_factory=list)
     over: bool = False
 
     def __post_init__(self) -> None:

@@ -68,7 +68,7 @@ class Witness(threading.Thread):
         while True:
             try:
                 async for events in etcd.watch(self.revision + 1):
-                    self.note(etcd, events)
+                    self.note(etcd, events or [])
             except ways.Fault:
                 etcd.turn()
             await asyncio.sleep(0.05)
@@ -165,4 +165,4 @@ def wait_failed(replica: ReplicaChild, status: int) -> str:
     return replica.said.read_text()
 
 
-__all__ = ["LIMIT", "Trial", "Unreachable", "Witness", "told", "wait", "wait_failed"]
+__all__ = ["LIMIT", "Etcd", "Trial", "Unreachable", "Witness", "told", "wait", "wait_failed"]

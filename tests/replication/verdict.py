@@ -2,6 +2,7 @@
 from __future__ import annotations
 
 import contextlib
+import re
 import sqlite3
 from collections import defaultdict
 from dataclasses import dataclass, field
@@ -12,6 +13,9 @@ import serial
 from scene import Scene
 from serial import Serial
 from stage import ReplicaChild
+
+# The digests that a replica tells: after how many entries, and those of the log, the answers and the store.
+TOLD = re.compile(r"([0-9]{1,18}) ([0-9a-f]{64} [0-9a-f]{64} [0-9a-f]{64})")
 
 
 @dataclass
@@ -39,15 +43,21 @@ def check_digests(scene: Scene, program: Path, found: Outcome) -> None:
     """Compares all digests that replicas ever told, place by place, with one another and the serial run's stores."""
     told: dict[int, set[str]] = defaultdict(set)
     for value in scene.witness.digests:
-        words = value.decode("latin-1").split(" ")
-        if len(words) == 4 and words[0].isdigit() and 0 < int(words[0]) <= found.serial.entries:
-            told[int(words[0])].add(" ".join(words[1:]))
+        place, digests = read_told(value)
+        if 0 < place <= found.serial.entries:
+            told[place].add(digests)
     found.places = len(told)
-    for place, digests in told.items():
+    for place, each in told.items():
         wanted = serial.digest_at(found.serial, place, program)
-        if len(digests) > 1 or next(iter(digests)).split(" ")[2] != wanted:
+        if len(each) > 1 or next(iter(each)).split(" ")[2] != wanted:
             found.differing += 1
-            found.faults.append(f"digests after entry {place}: {sorted(digests)}, the serial run's store has {wanted}")
+            found.faults.append(f"digests after entry {place}: {sorted(each)}, the serial run's store has {wanted}")
+
+
+def read_told(value: bytes) -> tuple[int, str]:
+    """The place and the digests that a value of etcd tells; no place if it is somebody else's, who also puts such keys."""
+    told = TOLD.fullmatch(value.decode("latin-1"))
+    return (int(told[1]), told[2]) if told else (0, "")
 
 
 def check_replica(replica: ReplicaChild, found: Outcome) -> None:

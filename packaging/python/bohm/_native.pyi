@@ -1,4 +1,4 @@
-from typing import Any, Dict, Iterable, Mapping, Optional, Sequence, Tuple, Union, overload
+from typing import Any, Dict, Iterable, List, Mapping, Optional, Sequence, Tuple, Union, overload
 
 from .library import Buffer, Text
 from .machine import Machine as PublicMachine
@@ -16,6 +16,7 @@ class Rows:
     def __getitem__(self, place: int) -> Reply: ...
     @overload
     def __getitem__(self, place: slice) -> Sequence[Reply]: ...
+    def lines(self) -> List[str]: ...
 
 class Key:
     def __init__(self, machine: Machine, name: Text) -> None: ...

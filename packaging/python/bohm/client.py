@@ -21,7 +21,7 @@ ANSWER, LEAST, LONGEST_PAUSE, PATIENCE = 15.0, 0.02, 2.0, 60.0
 # Statuses by which a replica says that another one, or a later try, may succeed.
 LATER = (408, 429, 500, 502, 503, 504, 507)
 # The most entries and bytes of one request.
-MOST, LARGEST = 4096, 1 << 22
+MOST, LARGEST = 4096, 1 << 20
 
 
 class UnavailableError(Exception):

@@ -218,4 +218,4 @@ class Form:
         if not len(found) == len(texts) == joined.count("\n") or not self.count:
             return None
         values = [*zip(*found)][1 + len(self.keys):]
-        return found if all(len(word) < 19 for column in values for word in column) else None
+        return found if all(max(map(len, column)) < 19 for column in values) else None

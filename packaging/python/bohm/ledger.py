@@ -213,7 +213,7 @@ class Ledger:
         """Runs and stores at most 4,096 entries as one commit, and in its transaction what `write` writes into tables of the
         caller's own: it is given the connection, the answers, and the ids that are stored, with their answers. So whoever
         reads entries from another log stores with them how far it has read."""
-        texts = [*map(text_of, entries)]
+        texts = [text if isinstance(text, str) and text.isascii() and text.endswith("\n") else text_of(text) for text in entries]
         if len(texts) > MOST:
             raise ValueError(f"a commit has at most {MOST} entries")
         with self._turns.alone():

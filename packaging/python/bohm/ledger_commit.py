@@ -6,6 +6,7 @@ from . import entries
 from .entries import Entry, Refused
 from .ledger_file import LedgerFile
 from .ledger_state import Answer, State, answer_of
+from .replies import lines_of
 
 
 # Writes rows of tables that aren't a ledger's, in the transaction of a commit: by the connection, the answers to its entries, and
@@ -25,9 +26,10 @@ def commit(file: LedgerFile, state: State, texts: Sequence[str], beside: Optiona
     ahead of the file."""
     first = state.top + 1
     alike = state.alike(texts) if len(texts) > 1 else None
-    if alike and are_new(file, alike.ids):
+    ids = alike.ids if alike else []
+    if alike and are_new(file, ids):
         replies = state.run_alike(alike)
-        requests = [(row[0], str(reply)) for row, reply in zip(alike.rows, replies) if row[0]] if alike.ids else []
+        requests = [(row[0], line) for row, line in zip(alike.rows, lines_of(replies)) if row[0]] if ids else []
         file.commit(first, "".join(texts), requests, bound(beside, replies, requests))
         return replies
     under_way = Commit(file, state, texts)

@@ -6,7 +6,7 @@ import json
 import os
 import re
 import sqlite3
-from typing import Callable, Dict, Generator, Iterable, Iterator, List, NamedTuple, Optional, Sequence, Tuple
+from typing import Callable, Dict, Generator, Iterable, Iterator, List, NamedTuple, Optional, Sequence, Set, Tuple
 from urllib.parse import quote
 
 from . import entries
@@ -25,8 +25,8 @@ DEFINES = "(substr(entries, 1, 7) = 'define ' OR instr(entries, char(10) || 'def
 PATIENCE = 5.0
 # Pages that the log of a file that isn't synchronous has at most, unless a commit or a reader takes more.
 LOG_PAGES = 1 << 14
-# Batches that are kept in memory, for ids that are sent again.
-MOST_FOUND = 64
+# Batches that are kept in memory, for ids that are sent again; and ids, twice as many at most and those of a commit.
+MOST_FOUND, MOST_RECENT = 64, 1 << 15
 
 
 class LedgerError(Exception):
@@ -155,6 +155,25 @@ class LedgerTables:
                 last = row[0]
 
 
+class Recent:
+    """The last ids that a file took, and the greatest of all others. Ids that rise with time are known to be new by these."""
+
+    def __init__(self, greatest: str) -> None:
+        self.greatest = greatest
+        self.young: Set[str] = set()
+        self.old: Set[str] = set()
+
+    def add(self, ids: Iterable[str]) -> None:
+        self.young.update(ids)
+        if len(self.young) > MOST_RECENT:
+            self.greatest = max(self.greatest, max(self.old, default=""))
+            self.young, self.old = set(), self.young
+
+    def are_new(self, ids: Sequence[str]) -> bool:
+        """Whether it is certain that the file has none of these."""
+        return min(ids) > self.greatest and self.young.isdisjoint(ids) and self.old.isdisjoint(ids)
+
+
 @contextlib.contextmanager
 def snapshot(path: str) -> Iterator[LedgerTables]:
     """The tables of a ledger's file as they are now. A writer goes on meanwhile."""
@@ -216,6 +235,7 @@ class LedgerFile(LedgerTables):
         # The bytes of the batches that an archive may take.
         size = f"SELECT coalesce(sum(length(entries)), 0) FROM batch WHERE NOT {DEFINES}"
         self.archivable: int = self.connection.execute(size).fetchone()[0]
+        self.recent = Recent(self.connection.execute("SELECT max(id) FROM request").fetchone()[0] or "")
 
     def check(self) -> None:
         for table, wanted in TABLES.items():
@@ -276,12 +296,13 @@ class LedgerFile(LedgerTables):
             if text:
                 self.connection.execute("INSERT INTO batch VALUES (?, ?, ?)", (place, first, text))
             if requests:
-                rows = sorted((name, place, answer) for name, answer in requests)
+                rows = sorted([(name, place, answer) for name, answer in requests])
                 self.connection.executemany("INSERT INTO request VALUES (?, ?, ?)", rows)
             if more:
                 more(self.connection)
         self.place = place
         self.archivable += len(text)
+        self.recent.add(name for name, _ in requests)
 
     def checkpoint(self, sequence: int, cells: Iterable[Tuple[str, Optional[int]]]) -> None:
         """Stores the cells of keys that may have changed; they are those after the transaction with this number."""
@@ -307,6 +328,8 @@ class LedgerFile(LedgerTables):
 
     def requests(self, ids: Sequence[str]) -> Dict[str, Tuple[int, str]]:
         """The places and answers of the ids that are known."""
+        if self.recent.are_new(ids):
+            return {}
         if len(ids) == 1:
             rows = self.connection.execute("SELECT id, place, answer FROM request WHERE id = ?", (ids[0],))
         else:

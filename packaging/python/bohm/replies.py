@@ -42,6 +42,10 @@ class ReplySequence(Sequence[Reply]):
 
     __slots__ = ()
 
+    def lines(self) -> List[str]:
+        """The line of each."""
+        return [*map(str, self)]
+
     def __eq__(self, other: object) -> bool:
         if not isinstance(other, (ReplySequence, list, tuple)):
             return NotImplemented
@@ -66,6 +70,11 @@ class ReplyLines(ReplySequence):
 
     def __getitem__(self, place: Any) -> Any:
         return [reply_of(line) for line in self._lines[place]] if isinstance(place, slice) else reply_of(self._lines[place])
+
+
+def lines_of(answers: Sequence[object]) -> List[str]:
+    """The line of each answer."""
+    return answers.lines() if isinstance(answers, ReplySequence) else [*map(str, answers)]
 
 
 class Answer(NamedTuple):

@@ -1,4 +1,6 @@
 /* Replies: rows and shown values as the library returns them, a chunk for each batch. */
+#include <inttypes.h>
+
 #include "native.h"
 
 replies_object *new_replies(table_object *table, size_t room) {
@@ -121,6 +123,41 @@ static PyObject *replies_get(PyObject *self, PyObject *place) {
     return replies_item(self, index < 0 ? index + replies_length(self) : index);
 }
 
+/* The line of a reply in the text of an answer. */
+static PyObject *line_of(uint32_t timestamp, const bohm_reply *row, const int64_t *values) {
+    static const char *const names[] = {"commit", "need", "fail", "absent", "range"};
+    char small[256];
+    /* A number has at most 20 characters, with its sign, and there is a space before it. */
+    size_t room = 64 + 21 * (size_t)row->shown;
+    char *line = room > sizeof small ? PyMem_Malloc(room) : small;
+    if (!line) return PyErr_NoMemory();
+    int end = row->outcome ? snprintf(line, room, "%" PRIu32 " abort %s %" PRIu32, timestamp, names[row->outcome], row->statement)
+                           : snprintf(line, room, "%" PRIu32 " commit", timestamp);
+    for (uint64_t i = 0; !row->outcome && i < row->shown; i++)
+        end += snprintf(line + end, room - (size_t)end, " %" PRId64, values[i]);
+    PyObject *made = PyUnicode_FromStringAndSize(line, end);
+    if (line != small) PyMem_Free(line);
+    return made;
+}
+
+static PyObject *replies_lines(PyObject *self, PyObject *unused) {
+    (void)unused;
+    replies_object *replies = (replies_object *)self;
+    PyObject *list = PyList_New(replies_length(self));
+    for (size_t i = 0; list && i < replies->count; i++) {
+        const chunk *in = replies->chunks + i;
+        for (size_t place = 0; list && place < in->len; place++) {
+            const bohm_reply *row = in->rows + place;
+            PyObject *line = line_of(in->behind + 1 + (uint32_t)place, row, row->shown ? in->values + row->first : NULL);
+            if (!line) Py_CLEAR(list);
+            else PyList_SetItem(list, (Py_ssize_t)(in->start + place), line);
+        }
+    }
+    return list;
+}
+
+static PyMethodDef methods[] = {{"lines", replies_lines, METH_NOARGS, "The line of each."}, {0}};
+
 static replies_object *reversed(replies_object *newest) {
     replies_object *oldest = NULL;
     while (newest) {
@@ -147,7 +184,7 @@ replies_object *joined_replies(replies_object *newest) {
 }
 
 static PyType_Slot slots[] = {
-    {Py_tp_doc, "The rows of replies."}, {Py_tp_dealloc, replies_dealloc}, {Py_sq_length, replies_length},
+    {Py_tp_doc, "The rows of replies."}, {Py_tp_dealloc, replies_dealloc}, {Py_tp_methods, methods}, {Py_sq_length, replies_length},
     {Py_sq_item, replies_item}, {Py_mp_length, replies_length}, {Py_mp_subscript, replies_get}, {0}};
 
 static PyType_Spec spec = {"bohm._native.Rows", sizeof(replies_object), 0, Py_TPFLAGS_DEFAULT | Py_TPFLAGS_BASETYPE, slots};
