@@ -1,11 +1,12 @@
 //! One transaction on a machine.
 
-ghost use Rattle.std.specs.Prelude.{◌≡◌, ◌∷◌, [], ℕ, List, true, IfOk, OnOk, length};
+ghost use Rattle.std.specs.Prelude.{◌≡◌, ◌+◌, ◌<◌, ◌≤◌, ◌^◌, ◌∷◌, [], ℕ, List, true, Err, IfOk, OnOk, length};
 ghost use Rattle.bohm_types.specs.Keys.{is_among, names_of, rising};
 ghost use Rattle.bohm_types.specs.Txn.{Txn};
 ghost use Rattle.bohm_txn.specs.Meaning.{body};
 ghost use Rattle.bohm_txn.specs.Serial.{after, reply_of};
-ghost use Rattle.bohm_machine.specs.Machines.{now_of};
+ghost use Rattle.bohm_ledger.specs.declared.error.MachineFault.TheVariants as fault_is;
+ghost use Rattle.bohm_machine.specs.Machines.{floor_of, now_of, past_of, top_of};
 ghost use Rattle.bohm_durable.specs.Entering.{IsSince, KeepsCheckpoint};
 
 use bohm_ledger::MachineFault;
@@ -60,6 +61,11 @@ pub(crate) fn apply_one(
         → ((t : Txn) → log.now.log ≡ t ∷ [] → (k : List ℕ) → is_among t.writes k ≡ true → is_among changed k ≡ true)
         → IsSince machine.new changed }
     ensures checkpoint { KeepsCheckpoint machine.old machine.new }
+    ensures earlier { (ts : ℕ) → floor_of machine.old ≤ ts → ts ≤ top_of machine.old
+        → past_of machine.new ts ≡ past_of machine.old ts }
+    ensures top { OnOk result (top_of machine.new ≡ top_of machine.old + 1) }
+    ensures unreadable { result ≡ Err fault_is.Unreadable → 0 < length log.now.store }
+    ensures full { result ≡ Err fault_is.Full → 2 ^ 32 ≤ top_of machine.old + 1 }
 {
     let _well_formed = log.log();
     match machine.apply(alloc, log) {

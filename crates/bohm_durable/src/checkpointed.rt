@@ -41,14 +41,27 @@ impl Checkpointed {
             changed: Vec::new(alloc),
         })
     }
+
+    pub(crate) fn machine(&self) -> &Machine
+        ensures { result.now ≡ self.now.machine }
+    {
+        &self.machine
+    }
 }
 
 impl Past for Checkpointed {
-    ghost use Rattle.bohm_machine.specs.Machines.{floor_of, now_of, past_of};
+    ghost use Rattle.std.specs.Prelude.{◌+◌, ◌-◌, ◌^◌};
+    ghost use Rattle.bohm_machine.specs.Machines.{floor_of, now_of, past_of, top_of};
 
     ghost look = { λ p. now_of p.machine };
 
     ghost saved = { λ p. past_of p.machine (floor_of p.machine) };
+
+    ghost since = { λ p. top_of p.machine - floor_of p.machine };
+
+    ghost past = { λ p n. past_of p.machine (floor_of p.machine + n) };
+
+    ghost room = { λ p. (2 ^ 32 - 1) - top_of p.machine };
 
     fn start(&mut self, store: &[(Key, Value)]) -> Result<(), MachineFault> {
         if !is_rising(store) {
@@ -70,9 +83,6 @@ impl Past for Checkpointed {
         let Ok(store) = self.machine.store_at(self.alloc, last) else {
             return Err(MachineFault::OutOfMemory);
         };
-        if !is_rising(store.as_slice()) {
-            return Err(MachineFault::Unreadable);
-        }
         let Ok(machine) = Machine::restore(self.alloc, self.seed, store.as_slice(), 0) else {
             return Err(MachineFault::OutOfMemory);
         };
@@ -105,6 +115,22 @@ impl Past for Checkpointed {
     fn saved_value(&self, key: &Key) -> Cell {
         match self.machine.value_at(key, self.machine.floor()) {
             Ok(cell) => cell,
+            Err(_) => unreachable!(),
+        }
+    }
+
+    fn ran_since(&self) -> u64 {
+        u64::from(self.machine.top() - self.machine.floor())
+    }
+
+    fn value_after(&self, count: u64, key: &Key) -> Option<Cell> {
+        let floor = self.machine.floor();
+        let since = self.machine.top() - floor;
+        if count > u64::from(since) {
+            return None;
+        }
+        match self.machine.value_at(key, floor + count as u32) {
+            Ok(cell) => Some(cell),
             Err(_) => unreachable!(),
         }
     }

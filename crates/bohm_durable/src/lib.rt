@@ -4,5 +4,6 @@
 
 mod applying;
 mod checkpointed;
+mod looking_back;
 
 pub use checkpointed::Checkpointed;

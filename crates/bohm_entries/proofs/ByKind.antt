@@ -22,7 +22,7 @@ id_read kind None [] h = refl
 id_read kind None (w ∷ ws) h = no_id w h
 id_read kind (Some id) rest h = refl
 
-words_behind : (rest : Words) → IsRest None rest → behind_id rest ≡ rest
+pub words_behind : (rest : Words) → IsRest None rest → behind_id rest ≡ rest
 words_behind [] h = refl
 words_behind (w ∷ ws) h = rw h refl
 

@@ -62,6 +62,7 @@ nothing_passed text = record { front = []; bytes = refl; whole = refl; each = tt
 pub record IsCut (text entry others : List ℕ) : Type 0 where
   pub bytes : text ≡ entry ++ others
   pub entries : entries_in (whole_lines text) ≡ whole_lines entry ∷ entries_in (whole_lines others)
+  pub whole : IsWhole entry
 
 pub cut_here : (text rest line others : List ℕ) → Passed text rest → rest ≡ line ++ 10 ∷ others → whole_lines rest ≡ line ∷ whole_lines others
     → ends line ≡ true → (entry : List ℕ) × IsCut text entry others
@@ -74,6 +75,7 @@ cut_here text rest line others p bytes lines end =
         bytes = p.bytes ∙ (ap (λ (t : List ℕ). p.front ++ t) bytes ∙ regrouped p.front line others);
         entries = ap entries_in text_lines ∙ (first_entry (whole_lines p.front) line (whole_lines others) p.each end
             ∙ ap (λ (e : List (List ℕ)). e ∷ entries_in (whole_lines others)) (sym (front_lines p.front line others p.whole h)));
+        whole = subst IsWhole (append_assoc p.front line (10 ∷ [])) (whole_ended (p.front ++ line));
       },
     )
 

@@ -6,3 +6,5 @@ pub use Rattle.bohm_entries.proofs.ByKind.{id_read, kind_read, weight_read}
 pub use Rattle.bohm_entries.proofs.ByKind.{define_runs_none, not_defining, only_defining}
 -- what was read of an entry
 pub use Rattle.bohm_entries.proofs.Reading.{call_read, define_read}
+-- what is refused is no entry
+pub use Rattle.bohm_entries.proofs.Refusing.{IsSame, entry_not_refused, no_first_line, no_line, not_refused, one_head, read_alike, said_alike}

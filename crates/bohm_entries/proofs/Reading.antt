@@ -1,6 +1,7 @@
 -- What was read of an entry's text is what its lines spell.
-use Rattle.std.proofs.Common.{◌≡◌, ℕ, ℤ, List, [], ◌∷◌, ◌++◌, drop, take, length, zero, suc, Some, None, refl, ap, sym, ◌∙◌, append_assoc, subst, arith}
+use Rattle.std.proofs.Common.{◌≡◌, ℕ, ℤ, ◌+◌, ◌≤◌, IsSome, length-drop, List, [], ◌∷◌, ◌++◌, drop, take, length, zero, suc, Some, None, refl, ap, sym, ◌∙◌, append_assoc, subst, arith, rules}
 use Rattle.std.proofs.lemmas.List.{append-nil}
+use Rattle.std.proofs.lemmas.Option.{same_Some}
 use Rattle.std.specs.Prelude.{codes, Err, Option, Result}
 use Rattle.bohm_types.specs.declared.edition.Edition.{Edition}
 use Rattle.bohm_types.specs.Document.{Document}
@@ -23,7 +24,7 @@ use Rattle.bohm_entries.specs.declared.refusal.Refusal.TheVariants as refusal_is
 use Rattle.bohm_entries.specs.Meaning.{Call, Define, Definitions, defined}
 use Rattle.bohm_entries.specs.Batches.{behind_opening, called_of, define_of, named, procedure_at, only_txn, procedure_in, txn_at, txn_in, values_of}
 
-opening_lines : (e : Edition) (lines : List ℕ) → whole_lines (behind_opening e lines) ≡ head_line e ∷ codes "txn" ∷ whole_lines lines
+pub opening_lines : (e : Edition) (lines : List ℕ) → whole_lines (behind_opening e lines) ≡ head_line e ∷ codes "txn" ∷ whole_lines lines
 opening_lines e lines = headed_lines e (codes "txn" ++ 10 ∷ lines)
     ∙ ap (λ (ls : List (List ℕ)). head_line e ∷ ls) (window_lines (codes "txn" ++ 10 ∷ lines) (record { behind = lines; begins = refl }))
 
@@ -87,6 +88,44 @@ key_taken front key word before after n m all more is found h =
     let one : keys_of (take n before) ≡ (keys_of (take m after) >>= λ ks. Some (key ∷ ks)) =
     (λ i. keys_of (take (more i) (is i))) ∙ rw found refl in
     sym (one_more_key front key (keys_of (take m after))) ∙ (ap (with_front front) (sym one) ∙ h)
+
+-- a word that spells no value
+pub value_bad : (front : List ℤ) (word : List ℕ) (before after : Words) (all : Option (List ℤ)) → before ≡ word ∷ after → number_of word ≡ None
+    → with_front front (values_of before) ≡ all → all ≡ None
+value_bad front word before after all is bad h = sym h ∙ (ap (λ ws. with_front front (values_of ws)) is ∙ rw bad refl)
+
+-- a word that is no key
+pub key_bad : (front : List (List ℕ)) (word : List ℕ) (before after : Words) (n m : ℕ) (all : Option (List (List ℕ))) → n ≡ suc m → before ≡ word ∷ after
+    → key_of word ≡ None → with_front front (keys_of (take n before)) ≡ all → all ≡ None
+unfolding keys_of
+key_bad front word before after n m all more is bad h =
+    sym h ∙ ((λ i. with_front front (keys_of (take (more i) (is i)))) ∙ rw bad refl)
+
+-- as many elements as words
+one_counted : {A : Type 0} (n : ℕ) (x : Option A) (o : Option (List A)) (all : List A) → ((xs : List A) → o ≡ Some xs → length xs ≡ n)
+    → (x >>= λ y. o >>= λ xs. Some (y ∷ xs)) ≡ Some all → length all ≡ suc n
+one_counted n None o all each h = absurd cc
+one_counted n (Some y) None all each h = absurd cc
+one_counted n (Some y) (Some xs) all each h = ap length (sym (same_Some (y ∷ xs) all h)) ∙ ap suc (each xs refl)
+
+pub values_counted : (words : Words) (values : List ℤ) → values_of words ≡ Some values → length values ≡ length words
+values_counted [] values h = ap length (sym (same_Some [] values h))
+values_counted (w ∷ ws) values h = one_counted (length ws) (number_of w) (values_of ws) values (λ vs is. values_counted ws vs is) h
+
+pub keys_counted : (words : Words) (keys : List (List ℕ)) → keys_of words ≡ Some keys → length keys ≡ length words
+unfolding keys_of
+keys_counted [] keys h = ap length (sym (same_Some [] keys h))
+keys_counted (w ∷ ws) keys h = one_counted (length ws) (key_of w) (keys_of ws) keys (λ ks is. keys_counted ws ks is) h
+
+-- words that two runs of them take whole
+pub words_counted : (words behind ahead : Words) (n m : ℕ) → behind ≡ drop n words → ahead ≡ drop m behind → n ≤ length words → m ≤ length behind → ahead ≡ []
+    → length words ≡ n + m
+words_counted words behind ahead n m first second enough more none =
+    omega (arith, ap length first, ap length second, ap length none, length-drop n words, length-drop m behind)
+
+pub some_is : {A : Type 0} (o : Option A) (x : A) → o ≡ Some x → IsSome o
+some_is None x h = absurd cc
+some_is (Some y) x h = search rules
 
 take_none : (n : ℕ) (ws : Words) → ws ≡ [] → take n ws ≡ []
 take_none zero ws h = refl

@@ -1,10 +1,12 @@
 //! The arguments of a call.
 
-ghost use Rattle.std.specs.Prelude.{◌≡◌, ◌∷◌, [], true, Err, Some, None, IfOk, IfErr, length, drop, take};
+ghost use Rattle.std.specs.Prelude.{◌≡◌, ◌∷◌, ◌≤◌, ◌<◌, ◌+◌, [], true, false, Err, Some, None, IfOk, OnOk, length, drop, take};
 ghost use Rattle.bohm_text.specs.Reading.{keys_of};
 ghost use Rattle.bohm_entries.specs.Batches.{values_of};
 ghost use Rattle.bohm_entries.specs.declared.refusal.EntryFault.TheVariants as fault_is;
+ghost use Rattle.bohm_entries.specs.declared.refusal.Refusal.{Refusal as TheRefusal};
 ghost use Rattle.bohm_entries.specs.declared.refusal.Refusal.TheVariants as refusal_is;
+ghost use Rattle.bohm_entries.specs.Refusals.{RefusesArguments};
 
 use crate::refusal::{EntryFault, Refusal};
 use bohm_text::{Words, read_number};
@@ -22,7 +24,9 @@ pub struct Arguments {
 
 /// Takes this many words away, if there are as many.
 fn skip(words: &mut Words<'_>, count: usize) -> bool
-    ensures { result ≡ true → words.new ≡ drop count words.old }
+    ensures rest { result ≡ true → words.new ≡ drop count words.old }
+    ensures enough { result ≡ true → count ≤ length words.old }
+    ensures few { result ≡ false → length words.old < count }
 {
     'words: for _ in 0..count {
         let Some(_) = words.next() else {
@@ -35,6 +39,8 @@ fn skip(words: &mut Words<'_>, count: usize) -> bool
 /// The values that the words spell.
 fn read_values(alloc: Global, words: Words<'_>) -> Result<Vec<Value>, EntryFault>
     ensures found { IfOk result (λ values. values_of words.entry ≡ Some values.items) }
+    ensures refused { (r : TheRefusal) → result ≡ Err (fault_is.Refused r)
+        → (r ≡ refusal_is.Value) × (values_of words.entry ≡ None) }
 {
     let mut rest = words;
     let mut values = Vec::new(alloc);
@@ -50,6 +56,8 @@ fn read_values(alloc: Global, words: Words<'_>) -> Result<Vec<Value>, EntryFault
 /// The keys that this many words spell.
 fn read_keys(alloc: Global, words: Words<'_>, count: usize) -> Result<Vec<Key>, EntryFault>
     ensures found { IfOk result (λ keys. keys_of (take count words.entry) ≡ Some keys.items) }
+    ensures refused { (r : TheRefusal) → result ≡ Err (fault_is.Refused r)
+        → (r ≡ refusal_is.Key) × (keys_of (take count words.entry) ≡ None) }
 {
     let mut rest = words;
     let mut keys = Vec::new(alloc);
@@ -77,20 +85,22 @@ pub fn read_arguments(
     ensures keys { IfOk result (λ a. keys_of (take keys words.entry) ≡ Some a.keys.items) }
     ensures values { IfOk result (λ a. values_of (drop keys words.entry) ≡ Some a.values.items) }
     ensures counts { IfOk result (λ a. (length a.keys.items ≡ keys) × (length a.values.items ≡ values)) }
+    ensures words { OnOk result (length words.entry ≡ keys + values) }
+    ensures refused { (r : TheRefusal) → result ≡ Err (fault_is.Refused r) → RefusesArguments words.entry keys values r }
 {
     let mut behind = words.fork();
     if !skip(&mut behind, keys) {
         return Err(EntryFault::Refused(Refusal::Arguments));
     }
     let mut ahead = behind.fork();
-    if !skip(&mut ahead, values) || ahead.next().is_some() {
+    if !skip(&mut ahead, values) {
         return Err(EntryFault::Refused(Refusal::Arguments));
     }
+    let None = ahead.next() else {
+        return Err(EntryFault::Refused(Refusal::Arguments));
+    };
     let values_read = read_values(alloc, behind)?;
     let keys_read = read_keys(alloc, words, keys)?;
-    if keys_read.len() != keys || values_read.len() != values {
-        return Err(EntryFault::Refused(Refusal::Arguments));
-    }
     Ok(Arguments {
         keys: keys_read,
         values: values_read,

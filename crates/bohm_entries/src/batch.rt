@@ -2,6 +2,7 @@
 
 ghost use Rattle.std.specs.Prelude.{◌≡◌, ◌<◌, ◌∷◌, ◌++◌, [], length, IfSome, MatchOption};
 ghost use Rattle.bohm_text.specs.Cut.{split, whole_lines};
+ghost use Rattle.bohm_text.specs.Windowing.{IsWhole};
 ghost use Rattle.bohm_entries.specs.Batches.{are_plain, count, ends, entries_of, is_definition, leads};
 
 use bohm_text::{Words, split_line};
@@ -30,6 +31,7 @@ pub fn split_entry(text: &[u8]) -> Option<(&[u8], &[u8])>
         (λ cut. entries_of text.now ≡ whole_lines cut.0.now ∷ entries_of cut.1.now) }
     ensures bytes { IfSome result (λ cut. text.now ≡ cut.0.now ++ cut.1.now) }
     ensures some { IfSome result (λ cut. 0 < length cut.0.now) }
+    ensures whole { IfSome result (λ cut. IsWhole cut.0.now) }
 {
     let mut rest = text;
     'lines: while let Some((line, others)) = split_line(rest) {

@@ -8,7 +8,9 @@ ghost use Rattle.bohm_text.specs.ProcedureFaults.{IsFirstBadLine, IsShort};
 ghost use Rattle.bohm_text.specs.ProcedureText.{IsProcedure, print_procedure};
 ghost use Rattle.bohm_procedures.specs.Accepting.{IsAccepted, IsRefusedBy};
 ghost use Rattle.bohm_entries.specs.declared.refusal.EntryFault.TheVariants as fault_is;
+ghost use Rattle.bohm_entries.specs.declared.refusal.Refusal.{Refusal as TheRefusal};
 ghost use Rattle.bohm_entries.specs.declared.refusal.Refusal.TheVariants as refusal_is;
+ghost use Rattle.bohm_entries.specs.Refusals.{RefusesDefinition};
 
 use crate::refusal::{EntryFault, Refusal};
 use bohm_log::DrawnSeed;
@@ -33,6 +35,7 @@ pub fn read_definition(
     ensures short { result ≡ Err (fault_is.Refused refusal_is.Short) → IsShort text.now }
     ensures check { (f : TheFault) → result ≡ Err (fault_is.Refused (refusal_is.Check f))
         → IsRefusedBy text.now f }
+    ensures refused { (r : TheRefusal) → result ≡ Err (fault_is.Refused r) → RefusesDefinition edition text.now r }
 {
     match Procedure::read(alloc, seed, text) {
         Ok(procedure) => {

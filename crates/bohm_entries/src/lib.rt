@@ -15,6 +15,6 @@ pub use batch::{count_transactions, has_no_definition, is_definition, split_entr
 pub use definition::read_definition;
 pub use definitions::Definitions;
 pub use first_line::{FirstLine, Kind, read_first_line};
-pub use ids::is_id;
+pub use ids::{is_id, is_word};
 pub use refusal::{EntryFault, Refusal};
 pub use transaction::read_transaction;

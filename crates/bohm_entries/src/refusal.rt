@@ -39,6 +39,11 @@ pub enum EntryFault {
 }
 
 impl<T: Drop> From<AllocFailed<T>> for EntryFault {
+    ghost use Rattle.std.specs.Prelude.{◌≡◌};
+    ghost use Rattle.bohm_entries.specs.declared.refusal.EntryFault.TheVariants.{NoMemory};
+
+    ghost from_gives = { λ _ e. e ≡ NoMemory };
+
     fn from(_e: AllocFailed<T>) -> EntryFault {
         EntryFault::NoMemory
     }

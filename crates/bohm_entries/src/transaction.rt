@@ -1,6 +1,6 @@
 //! A transaction that is an entry.
 
-ghost use Rattle.std.specs.Prelude.{◌≡◌, ◌∷◌, ◌++◌, ◌+◌, [], ℕ, Err, Some, IfOk, codes};
+ghost use Rattle.std.specs.Prelude.{◌≡◌, ◌∷◌, ◌++◌, ◌+◌, [], ℕ, Err, Some, IfOk, OnOk, codes};
 ghost use Rattle.bohm_types.specs.Document.{Document};
 ghost use Rattle.bohm_types.specs.Txn.{Txn};
 ghost use Rattle.bohm_txn.specs.Faulty.{IsFirstFault};
@@ -10,7 +10,9 @@ ghost use Rattle.bohm_text.specs.Faults.{IsFirstBadLine, IsShort};
 ghost use Rattle.bohm_text.specs.Windows.{head_line, headed};
 ghost use Rattle.bohm_entries.specs.Batches.{behind_opening, txn_in};
 ghost use Rattle.bohm_entries.specs.declared.refusal.EntryFault.TheVariants as fault_is;
+ghost use Rattle.bohm_entries.specs.declared.refusal.Refusal.{Refusal as TheRefusal};
 ghost use Rattle.bohm_entries.specs.declared.refusal.Refusal.TheVariants as refusal_is;
+ghost use Rattle.bohm_entries.specs.Refusals.{IsTransaction, RefusesTransaction};
 
 use crate::refusal::{EntryFault, Refusal};
 use bohm_log::DrawnSeed;
@@ -58,6 +60,9 @@ pub fn read_transaction(
     ensures check { (f : TheFault) → result ≡ Err (fault_is.Refused (refusal_is.Check f))
         → (d : Document) × (t : Txn) × (d.log ≡ t ∷ [])
         × (txn_in edition (whole_lines lines.now) ≡ Some t) × IsFirstFault d f }
+    ensures taken { OnOk result (IsTransaction edition lines.now) }
+    ensures store { IfOk result (λ checked. checked.store ≡ []) }
+    ensures refused { (r : TheRefusal) → result ≡ Err (fault_is.Refused r) → RefusesTransaction edition lines.now r }
 {
     let Ok(text) = behind_opening(alloc, edition, lines) else {
         return Err(EntryFault::NoMemory);

@@ -31,6 +31,10 @@ module _ {Defs : Type 0} (rules : Rules Defs) (edition : Edition) (bs : List (Li
       ∙ ap (λ t. request_row p (id, t)) text in
       subst (λ r. Has r (requests rules 1 (origin rules edition) bs)) is (ready.ledger.requests.back row there)
 
+  -- the row that was found is a request's
+  pub found_request : (row : Row) → Has row (v.trees request_tree) → ((n : ℕ) (e : List ℕ × List ℕ) → ¬ (row ≡ request_row n e)) → ⊥
+  found_request row there none = let form = all_requests row there in none form.0 form.1 form.2
+
   -- after a call that only reads
   pub still_ready : (new : View) → OnlyReads v new → IsReady rules edition bs new place checkpoint state saved
   still_ready new same =

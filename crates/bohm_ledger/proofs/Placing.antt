@@ -35,6 +35,10 @@ stays p (r ∷ rows) row there passes = go (p r) refl (λ there. stays p rows ro
     go false is more (inl same) = absurd (let wrong = sym passes ∙ ap p same ∙ is in cc)
     go false is more (inr there) = more there
 
+-- the rows are those of batches
+abbrev pub AreBatches : List Row → Type 0
+AreBatches rows = (row : Row) → Has row rows → (place : ℕ) × (first : ℕ) × (text : List ℕ) × (row ≡ batch_row place first text)
+
 module _ {Defs : Type 0} (rules : Rules Defs) (c : ℕ) where
   -- a row is its batch's
   kept_at : (bs : List (List ℕ)) (from first : ℕ) (rows : List Row) → AreKept rules c from first bs rows → (place at : ℕ) (text : List ℕ)
@@ -46,6 +50,15 @@ module _ {Defs : Type 0} (rules : Rules Defs) (c : ℕ) where
   ]
   kept_at (b ∷ bs) from first rows (inr (gone, kept)) place at text there =
       inr (kept_at bs (from + 1) (first + rules.size b) rows kept place at text there)
+
+  -- each row is a batch's
+  pub are_batches : (bs : List (List ℕ)) (from first : ℕ) (rows : List Row) → AreKept rules c from first bs rows → AreBatches rows
+  are_batches [] from first rows kept row there = absurd (subst (Has row) kept there)
+  are_batches (b ∷ bs) from first rows (inl (rest, is, kept)) row there = elim (subst (Has row) is there) [
+    | inl same ↦ (from, first, b, same)
+    | inr more ↦ are_batches bs (from + 1) (first + rules.size b) rest kept row more
+  ]
+  are_batches (b ∷ bs) from first rows (inr (gone, kept)) row there = are_batches bs (from + 1) (first + rules.size b) rows kept row there
 
   -- a place that no row has
   missing_at : (bs : List (List ℕ)) (from first : ℕ) (rows : List Row) → AreKept rules c from first bs rows → (place : ℕ)
@@ -72,8 +85,19 @@ module _ {Defs : Type 0} (rules : Rules Defs) (c : ℕ) where
 
 module _ {Defs : Type 0} (rules : Rules Defs) (edition : Edition) (bs : List (List ℕ)) (v : View) (next checkpoint : ℕ) (state : State Defs)
     (saved : Look) (ready : IsReady rules edition bs v next checkpoint state saved) where
-  kept : AreKept rules checkpoint 1 1 bs (v.trees batch_tree)
+  pub kept : AreKept rules checkpoint 1 1 bs (v.trees batch_tree)
   kept = subst (λ n. AreKept rules n 1 1 bs (v.trees batch_tree)) (sym ready.checkpointed) ready.ledger.batches
+
+  pub all_batches : AreBatches (v.trees batch_tree)
+  all_batches = are_batches rules checkpoint bs 1 1 (v.trees batch_tree) kept
+
+  -- the row that was found is a batch's
+  pub found_batch : (place : ℕ) (row : Row) → Finds (v.trees batch_tree) (pos place) row true
+      → ((n at : ℕ) (text : List ℕ) → ¬ (row ≡ batch_row n at text)) → ⊥
+  found_batch place row finds none =
+      let there = passed (has_rowid (pos place)) (v.trees batch_tree) row (subst (Has row) (sym finds) (inl refl)) in
+      let form = all_batches row there.0 in
+      none form.0 form.1 form.2 form.3
 
   pub missing : (place : ℕ) (row : Row) → Finds (v.trees batch_tree) (pos place) row false → IsMissing rules checkpoint place 1 1 bs
   missing place row none = missing_at rules checkpoint bs 1 1 (v.trees batch_tree) kept place

@@ -116,6 +116,10 @@ pub record AreLess {Defs : Type 0} (rules : Rules Defs) (bound next : ℕ) (old 
       → AreKept rules checkpoint 1 1 bs (new batch_tree)
   pub others : (t : ℕ) → t ≢ batch_tree → new t ≡ old t
 
+-- whatever batches end before this place, the rows aren't theirs behind a checkpoint from the bound on
+abbrev pub AreNone : {Defs : Type 0} → Rules Defs → ℕ → ℕ → List Row → Type 0
+AreNone rules bound next rows = (checkpoint : ℕ) (bs : List (List ℕ)) → bound ≤ checkpoint → next ≡ 1 + length bs → ¬ AreKept rules checkpoint 1 1 bs rows
+
 -- the row has the id and is one of these, or none of them has the id
 abbrev pub Finds : List ℕ → Row → Bool → List Row → Type 0
 Finds id row true rows = Has row rows × (column row 0 ≡ Text id)

@@ -1,10 +1,10 @@
 //! Taking batches behind the checkpoint out of the store.
 
-ghost use Rattle.std.specs.Prelude.{◌≡◌, ◌⊎◌, ◌<◌, ◌^◌, ◌≤◌, true, OnOk, OnErr, IfOk, IfSome, IsTrue};
+ghost use Rattle.std.specs.Prelude.{◌≡◌, ◌⊎◌, ◌<◌, ◌^◌, ◌≤◌, true, Err, OnOk, OnErr, IfOk, IfSome, IsTrue};
 ghost use Rattle.sqlite_trees.specs.Tree.{Trees};
 ghost use Rattle.sqlite_trees.specs.View.{View, doubt, IsClean, KeepsSchema, KeepsCommitted, IsQuiet};
 ghost use Rattle.bohm_ledger.specs.Rows.{Has, batch_tree};
-ghost use Rattle.bohm_ledger.specs.Steps.{AreLess, Forgets, IsSteady, IsStored, IsUndone, OnlyReads};
+ghost use Rattle.bohm_ledger.specs.Steps.{AreLess, AreNone, Forgets, IsSteady, IsStored, IsUndone, OnlyReads};
 
 use crate::error::Fault;
 use crate::machine::Machine;
@@ -44,6 +44,7 @@ fn forget_one<S: Store, M: Machine>(
     requires steady { IsClean (S.view store.old) → IsSteady (S.view store.old) }
     ensures ok { OnOk result (IsClean (S.view store.new) → Forgets M.rules bound next (S.view store.old) (S.view store.new)) }
     ensures place { IfOk result (λ it. IfSome it (λ place. place < 2 ^ 63)) }
+    ensures no_ledger { result ≡ Err Fault.NoLedger → IsClean (S.view store.new) → AreNone M.rules bound next ((S.view store.old).trees batch_tree) }
     ensures kept { IsClean (S.view store.new) → KeepsCommitted (S.view store.old) (S.view store.new) }
     ensures schema { KeepsSchema (S.view store.old) (S.view store.new) }
     ensures quiet { IsQuiet S.view S.faults S.recovers S.is_shielded store.old store.new }
@@ -77,6 +78,7 @@ fn forget_all<S: Store, M: Machine>(
     requires fits { (bound < 2 ^ 63) × (next < 2 ^ 63) }
     requires steady { IsClean (S.view store.old) → IsSteady (S.view store.old) }
     ensures ok { OnOk result (IsClean (S.view store.new) → Forgets M.rules bound next (S.view store.old) (S.view store.new)) }
+    ensures no_ledger { result ≡ Err Fault.NoLedger → IsClean (S.view store.new) → AreNone M.rules bound next ((S.view store.old).trees batch_tree) }
     ensures kept { IsClean (S.view store.new) → KeepsCommitted (S.view store.old) (S.view store.new) }
     ensures schema { KeepsSchema (S.view store.old) (S.view store.new) }
     ensures quiet { IsQuiet S.view S.faults S.recovers S.is_shielded store.old store.new }
@@ -106,6 +108,7 @@ pub(crate) fn forget<S: Store, M: Machine>(
     ensures stored { OnOk result (IsClean (S.view store.new) → IsStored (S.view store.old) (S.view store.new)) }
     ensures err { OnErr result (IsClean (S.view store.new) → IsTrue (S.view store.new).is_open
         → IsUndone (S.view store.old) (S.view store.new)) }
+    ensures no_ledger { result ≡ Err Fault.NoLedger → IsClean (S.view store.new) → AreNone M.rules bound next ((S.view store.old).trees batch_tree) }
     ensures steady { IsClean (S.view store.new) → IsSteady (S.view store.new) }
     ensures clean { doubt (S.view store.old).is_clean ≤ doubt (S.view store.new).is_clean }
     ensures crash { IsClean (S.view store.new) → (db : Trees) → S.recovers store.new db

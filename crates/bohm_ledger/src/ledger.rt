@@ -1,6 +1,6 @@
 //! A ledger: batches in a store, and a machine that has run them.
 
-ghost use Rattle.std.specs.Prelude.{◌≡◌, ◌⊎◌, ◌++◌, ◌<◌, ◌^◌, ◌≤◌, ℕ, List, [], ◌∷◌, true, false, MatchOption, IfOk, IfErr, OnOk, OnErr, IsTrue};
+ghost use Rattle.std.specs.Prelude.{◌≡◌, ◌≢◌, ◌⊎◌, ◌++◌, ◌+◌, ◌<◌, ◌^◌, ◌≤◌, ℕ, List, [], ◌∷◌, true, false, MatchOption, IfOk, IfErr, OnOk, OnErr, IsTrue};
 ghost use Rattle.sqlite_trees.specs.Tree.{Trees};
 ghost use Rattle.sqlite_trees.specs.View.{doubt, IsClean};
 ghost use Rattle.bohm_types.specs.declared.edition.Edition.{Edition as TheEdition};
@@ -12,7 +12,7 @@ ghost use Rattle.bohm_ledger.specs.Steps.{IsSteady};
 
 use crate::balance::replace;
 use crate::create::create;
-use crate::error::Fault;
+use crate::error::{Fault, MachineFault};
 use crate::find::find;
 use crate::forget::forget;
 use crate::keep::keep;
@@ -148,6 +148,13 @@ impl<S: Store + Drop, M: Machine + Drop> Ledger<S, M> {
             → IsReady M.rules self.old.edition bs (S.view self.new.store)
             self.new.place self.new.checkpoint (M.state self.new.machine) (M.saved self.new.machine)) }
         ensures behind { result ≡ Err Fault.Behind → self.old.is_behind ≡ true }
+        ensures no_ledger { result ≢ Err Fault.NoLedger }
+        ensures full { result ≡ Err Fault.Full → (2 ^ 63 ≤ self.old.place + 1) ⊎ (2 ^ 63 ≤ (M.state self.old.machine).top + 1) }
+        ensures unreadable { result ≡ Err (Fault.Machine MachineFault.Unreadable)
+            → ¬ M.reads (M.state self.old.machine).defs batch.now }
+        ensures machine_full { result ≡ Err (Fault.Machine MachineFault.Full)
+            → (M.room self.old.machine < M.rules.size batch.now) ⊎ (2 ^ 64 ≤ (M.state self.old.machine).top + M.rules.size batch.now) }
+        ensures room { OnOk result (M.room self.old.machine ≤ M.room self.new.machine + M.rules.size batch.now) }
         ensures edition { self.new.edition ≡ self.old.edition }
         ensures clean { doubt (S.view self.old.store).is_clean ≤ doubt (S.view self.new.store).is_clean }
 
@@ -197,6 +204,10 @@ impl<S: Store + Drop, M: Machine + Drop> Ledger<S, M> {
             → IsReady M.rules self.old.edition bs (S.view self.new.store)
             self.new.place self.new.checkpoint (M.state self.new.machine) (M.saved self.new.machine)) }
         ensures behind { result ≡ Err Fault.Behind → self.old.is_behind ≡ true }
+        ensures no_ledger { result ≢ Err Fault.NoLedger }
+        ensures full { result ≡ Err Fault.Full → 2 ^ 63 ≤ (M.state self.old.machine).top }
+        ensures machine { (fault : _) → result ≢ Err (Fault.Machine fault) }
+        ensures room { OnOk result (2 ^ 31 ≤ M.room self.new.machine) }
         ensures edition { self.new.edition ≡ self.old.edition }
         ensures clean { doubt (S.view self.old.store).is_clean ≤ doubt (S.view self.new.store).is_clean }
 
@@ -239,6 +250,9 @@ impl<S: Store + Drop, M: Machine + Drop> Ledger<S, M> {
             self.old.place self.old.checkpoint (M.state self.old.machine) (M.saved self.old.machine)
             → IsReady M.rules self.old.edition bs (S.view self.new.store)
             self.new.place self.new.checkpoint (M.state self.new.machine) (M.saved self.new.machine)) }
+        ensures no_ledger { result ≡ Err Fault.NoLedger → IsClean (S.view self.new.store) → (bs : List (List ℕ))
+            → ¬ IsReady M.rules self.old.edition bs (S.view self.old.store)
+            self.old.place self.old.checkpoint (M.state self.old.machine) (M.saved self.old.machine) }
         ensures edition { self.new.edition ≡ self.old.edition }
         ensures clean { doubt (S.view self.old.store).is_clean ≤ doubt (S.view self.new.store).is_clean }
 
@@ -272,6 +286,10 @@ impl<S: Store + Drop, M: Machine + Drop> Ledger<S, M> {
             self.old.place self.old.checkpoint (M.state self.old.machine) (M.saved self.old.machine)
             → IsReady M.rules self.old.edition bs (S.view self.new.store)
             self.new.place self.new.checkpoint (M.state self.new.machine) (M.saved self.new.machine)) }
+        ensures machine { self.new.machine ≡ self.old.machine }
+        ensures no_ledger { result ≡ Err Fault.NoLedger → IsClean (S.view self.new.store) → (bs : List (List ℕ))
+            → ¬ IsReady M.rules self.old.edition bs (S.view self.old.store)
+            self.old.place self.old.checkpoint (M.state self.old.machine) (M.saved self.old.machine) }
         ensures edition { self.new.edition ≡ self.old.edition }
         ensures clean { doubt (S.view self.old.store).is_clean ≤ doubt (S.view self.new.store).is_clean }
         ensures any_moment { (db : Trees) → S.recovers self.new.store db → S.recovers self.old.store db }
@@ -300,6 +318,10 @@ impl<S: Store + Drop, M: Machine + Drop> Ledger<S, M> {
             self.old.place self.old.checkpoint (M.state self.old.machine) (M.saved self.old.machine)
             → IsReady M.rules self.old.edition bs (S.view self.new.store)
             self.new.place self.new.checkpoint (M.state self.new.machine) (M.saved self.new.machine)) }
+        ensures machine { self.new.machine ≡ self.old.machine }
+        ensures no_ledger { result ≡ Err Fault.NoLedger → IsClean (S.view self.new.store) → (bs : List (List ℕ))
+            → ¬ IsReady M.rules self.old.edition bs (S.view self.old.store)
+            self.old.place self.old.checkpoint (M.state self.old.machine) (M.saved self.old.machine) }
         ensures edition { self.new.edition ≡ self.old.edition }
         ensures clean { doubt (S.view self.old.store).is_clean ≤ doubt (S.view self.new.store).is_clean }
         ensures any_moment { (db : Trees) → S.recovers self.new.store db → S.recovers self.old.store db }

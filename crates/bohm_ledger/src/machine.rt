@@ -1,7 +1,8 @@
 //! What runs the batches of a ledger.
 
-ghost use Rattle.std.specs.Prelude.{◌≡◌, ℕ, List, false, map, IfOk, OnOk};
-ghost use Rattle.bohm_types.specs.Keys.{is_among};
+ghost use Rattle.std.specs.Prelude.{◌≡◌, ◌≢◌, ◌⊎◌, ◌+◌, ◌<◌, ◌≤◌, ◌^◌, ℕ, List, true, false, map, Err, IfOk, OnOk};
+ghost use Rattle.bohm_types.specs.Keys.{is_among, names_of, rising};
+ghost use Rattle.bohm_ledger.specs.declared.error.MachineFault.TheVariants as fault_is;
 ghost use Rattle.bohm_ledger.specs.Rules.{Look, State, Rules, AreRules, after, cells};
 ghost use Rattle.bohm_ledger.specs.Loading.{passed};
 
@@ -74,6 +75,12 @@ pub trait Machine {
     // What each key held at the last checkpoint.
     ghost saved: { Self → Look };
 
+    // Whether a batch can be run after these definitions.
+    ghost reads: { Defs → List ℕ → Type 0 };
+
+    // How many transactions can be run at least before the machine is full.
+    ghost room: { Self → ℕ };
+
     /// The number of the last transaction.
     fn top(&self) -> u64
         ensures { result ≡ (state self.now).top };
@@ -87,7 +94,8 @@ pub trait Machine {
         ensures { result ≡ rules.is_plain batch.now };
 
     /// Goes to a checkpoint: no definition, the keys as in the store, and the number of the last
-    /// transaction before. After an `Err` nothing is known of the machine.
+    /// transaction before. It fails with `Unreadable` if the keys aren't in order. After an `Err`
+    /// nothing is known of the machine.
     fn start(
         &mut self,
         edition: Edition,
@@ -96,21 +104,33 @@ pub trait Machine {
     ) -> Result<(), MachineFault>
         ensures state { OnOk result
             (state self.new ≡ record { defs = rules.start edition; look = cells store.now; top = top }) }
-        ensures saved { OnOk result (saved self.new ≡ cells store.now) };
+        ensures saved { OnOk result (saved self.new ≡ cells store.now) }
+        ensures room { OnOk result (2 ^ 31 ≤ room self.new) }
+        ensures unreadable { result ≡ Err fault_is.Unreadable → ¬ (rising (names_of store.now) ≡ true) }
+        ensures not_full { result ≢ Err fault_is.Full };
 
-    /// Takes the definitions of a batch in, and runs none of its transactions. After an `Err`
-    /// nothing is known of the machine.
+    /// Takes the definitions of a batch in, and runs none of its transactions. It fails with
+    /// `Unreadable` if the batch can't be run. After an `Err` nothing is known of the machine.
     fn pass(&mut self, batch: &[u8]) -> Result<(), MachineFault>
         ensures state { OnOk result (state self.new ≡ passed rules (state self.old) batch.now) }
-        ensures saved { OnOk result (saved self.new ≡ saved self.old) };
+        ensures saved { OnOk result (saved self.new ≡ saved self.old) }
+        ensures room { OnOk result (room self.old ≤ room self.new) }
+        ensures unreadable { result ≡ Err fault_is.Unreadable → ¬ reads (state self.old).defs batch.now }
+        ensures not_full { result ≢ Err fault_is.Full };
 
-    /// Runs a batch. After an `Err` nothing is known of the machine.
+    /// Runs a batch. It fails with `Unreadable` if the batch can't be run, and with `Full` if the
+    /// numbers of its transactions, or the machine's own timestamps, are used up. After an `Err`
+    /// nothing is known of the machine.
     fn run(&mut self, alloc: Global, batch: &[u8]) -> Result<Ran<Self::Reply>, MachineFault>
         ensures state { OnOk result (state self.new ≡ after rules (state self.old) batch.now) }
         ensures saved { OnOk result (saved self.new ≡ saved self.old) }
         ensures replies { IfOk result (λ it. it.replies.items ≡ replies (state self.old) batch.now) }
         ensures answers { IfOk result
-            (λ it. it.answers.items ≡ rules.answers (state self.old) batch.now) };
+            (λ it. it.answers.items ≡ rules.answers (state self.old) batch.now) }
+        ensures room { OnOk result (room self.old ≤ room self.new + rules.size batch.now) }
+        ensures unreadable { result ≡ Err fault_is.Unreadable → ¬ reads (state self.old).defs batch.now }
+        ensures full { result ≡ Err fault_is.Full → (room self.old < rules.size batch.now)
+            ⊎ (2 ^ 64 ≤ (state self.old).top + rules.size batch.now) };
 
     /// Keys, among which each key is that changed since the last checkpoint.
     fn changed(&self) -> &[Key]
@@ -125,10 +145,11 @@ pub trait Machine {
     fn saved_value(&self, key: &Key) -> Cell
         ensures { result ≡ saved self.now key.now };
 
-    /// Makes a checkpoint of this moment.
+    /// Makes a checkpoint of this moment, from which on there is room for more transactions.
     fn note_checkpoint(&mut self)
         ensures state { state self.new ≡ state self.old }
-        ensures saved { saved self.new ≡ (state self.old).look };
+        ensures saved { saved self.new ≡ (state self.old).look }
+        ensures room { 2 ^ 31 ≤ room self.new };
 
     ghost keeps_rules: { AreRules rules };
 }

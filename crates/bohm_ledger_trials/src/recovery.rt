@@ -3,7 +3,7 @@
 use bohm_durable::Checkpointed;
 use bohm_ledger::{Ledger, Machine, restart};
 use bohm_log::DrawnSeed;
-use bohm_replay::EntryMachine;
+use bohm_replay::{EntryMachine, NumberFault};
 use bohm_types::{Cell, Edition, Key};
 use sqlite_trees::memory::MemStore;
 use sqlite_trees::schema::Object;
@@ -131,6 +131,44 @@ fn a_checkpoint_outlasts_a_crash(rt: HostRuntime) -> Result<(), Fail> {
     Ok(())
 }
 
+fn held(ledger: &MemLedger, number: u64) -> Result<Cell, NumberFault> {
+    match Key::new(b"a") {
+        Some(key) => ledger.machine().value_at(&key, number),
+        None => Err(NumberFault::Future),
+    }
+}
+
+fn held_amount(ledger: &MemLedger, number: u64, amount: i64) -> bool {
+    let Ok(cell) = held(ledger, number) else {
+        return false;
+    };
+    match cell {
+        Cell::Present(value) => value.get() == amount,
+        Cell::Absent => false,
+    }
+}
+
+#[test]
+fn values_are_found_by_number(rt: HostRuntime) -> Result<(), Fail> {
+    let seed = DrawnSeed::draw(&rt);
+    let Some(mut ledger) = new_ledger(rt.alloc(), seed) else {
+        assert!(rt; false);
+        return Ok(());
+    };
+    assert!(rt; answers(&mut ledger, DEFINITION, b"defined pay"));
+    let opening = ledger.append(OPENING)?;
+    assert_eq!(rt; opening.len(), 2);
+    assert!(rt; held_amount(&ledger, 1, 10));
+    assert!(rt; held_amount(&ledger, 2, 6));
+    assert!(rt; matches!(held(&ledger, 3), Err(NumberFault::Future)));
+    let before = ledger.machine().past().digest_before(rt.alloc(), 0)?;
+    ledger.checkpoint()?;
+    assert!(rt; matches!(held(&ledger, 1), Err(NumberFault::Trimmed)));
+    assert!(rt; held_amount(&ledger, 2, 6));
+    assert!(rt; ledger.machine().past().digest_before(rt.alloc(), 0)? == before);
+    Ok(())
+}
+
 #[test]
 fn unknown_names_are_not_admitted(rt: HostRuntime) -> Result<(), Fail> {
     let seed = DrawnSeed::draw(&rt);
@@ -143,6 +181,8 @@ fn unknown_names_are_not_admitted(rt: HostRuntime) -> Result<(), Fail> {
     assert!(rt; ledger.machine().admit(b"call pay a b 4\n").is_ok());
     assert!(rt; ledger.machine().admit(b"call pay a b\n").is_err());
     assert!(rt; ledger.machine().admit(b"call  pay a b 4\n").is_err());
+    assert!(rt; ledger.machine().admit(b"call pay a b 4\nend\n").is_err());
+    assert!(rt; ledger.machine().admit(b"call #r2 pay a b 4\n").is_ok());
     assert!(rt;
         ledger
             .machine()

@@ -1,3 +1,4 @@
 mod SerialRun
 mod Stepping
 mod Replied
+mod Admitted

@@ -1,14 +1,15 @@
 -- What entries do on a machine, one after another, and what they are answered.
-use Rattle.std.specs.Prelude.{◌≡◌, ℕ, ℤ, ◌+◌, Bool, true, false, List, [], ◌∷◌, ◌++◌, Option, Some, None, IsSome, codes, ⊤}
+use Rattle.std.specs.Prelude.{◌≡◌, ℕ, ℤ, zero, suc, ◌+◌, ◌^◌, max, Bool, true, false, List, [], ◌∷◌, ◌++◌, Option, Some, None, IsSome, codes, ⊤}
 use Rattle.bohm_types.specs.declared.edition.Edition.{Edition}
 use Rattle.bohm_types.specs.Procedure.{Procedure, instance}
 use Rattle.bohm_types.specs.Txn.{Txn}
 use Rattle.bohm_txn.specs.declared.outcome.Reply.{Reply}
 use Rattle.bohm_txn.specs.Meaning.{Look, body}
 use Rattle.bohm_txn.specs.Serial.{after, reply_of}
-use Rattle.bohm_text.specs.Print.{Words, line_text, reply_words}
+use Rattle.bohm_text.specs.Print.{Words, line_text, reply_words, text_of}
 use Rattle.bohm_entries.specs.Meaning.{Entry, Define, Call, Transaction, Definitions, defined, txns_of}
 use Rattle.bohm_entries.specs.Batches.{Defined, are_plain, called_of, count, defined_after, defined_by, definitions_with, entries_of, entry_in, id_in, is_definition, log_of, txns_in, txns_with, weight}
+use Rattle.bohm_entries.specs.Refusals.{IsEntry}
 use Rattle.bohm_ledger.specs.Rules.{Rules, State}
 
 -- what each key holds after these transactions, one after another
@@ -103,6 +104,26 @@ request_with (Some id) answer = (id, answer) ∷ []
 abbrev pub requests_by : State Defined → List (List (List ℕ)) → List (List ℕ × List ℕ)
 requests_by s [] = []
 requests_by s (e ∷ es) = request_with (id_in e) (answer_to s e) ++ requests_by (step s e) es
+
+-- the text of these entries, each of its lines
+abbrev pub entries_text : List (List (List ℕ)) → List ℕ
+entries_text [] = []
+entries_text (e ∷ es) = text_of e ++ entries_text es
+
+-- each may be run after the ones before it
+abbrev pub AreEntries : Defined → List (List (List ℕ)) → Type 0
+AreEntries d [] = ⊤
+AreEntries d (e ∷ es) = IsEntry d (text_of e) × AreEntries (defined_after d e) es
+
+-- the text is one entry after another, each of which may be run after the ones before it
+pub record IsBatch (d : Defined) (text : List ℕ) : Type 0 where
+  pub each : AreEntries d (entries_of text)
+  pub whole : entries_text (entries_of text) ≡ text
+
+-- the room of a machine after so many transactions since the last checkpoint: right after it there is room for 2^31
+abbrev pub room_after : ℕ → ℕ → ℕ
+room_after zero room = max (2 ^ 31) room
+room_after (suc n) room = room
 
 -- the rules of a ledger whose batches are texts of entries
 abbrev pub entry_rules : Rules Defined

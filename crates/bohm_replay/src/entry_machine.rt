@@ -1,15 +1,20 @@
 //! The machine of a ledger's entries.
 
-ghost use Rattle.std.specs.Prelude.{◌≡◌, ◌∷◌, ◌++◌, ◌+◌, [], IfOk, IsSome, OnOk, length};
+ghost use Rattle.std.specs.Prelude.{◌≡◌, ◌≢◌, ◌⊎◌, ◌∷◌, ◌++◌, ◌+◌, ◌-◌, ◌<◌, ◌≤◌, ◌^◌, [], Err, Ok, IfOk, IsSome, OnOk, length};
 ghost use Rattle.bohm_types.specs.Txn.{Txn};
 ghost use Rattle.bohm_txn.specs.Serial.{after};
 ghost use Rattle.bohm_text.specs.Cut.{whole_lines};
-ghost use Rattle.bohm_entries.specs.Batches.{called_of, define_of, definitions_with, entries_of, entry_by_kind, entry_in, id_in, transaction_of, weight, weight_of};
+ghost use Rattle.bohm_entries.specs.Batches.{called_of, define_of, definitions_with, entries_of, entry_by_kind, entry_in, id_in, named, transaction_of, weight, weight_of};
+ghost use Rattle.bohm_entries.specs.Refusals.{Calls as IsCalling, HasForm, IsDefinition, IsEntry, IsTransaction, Refuses, Says};
+ghost use Rattle.bohm_entries.specs.declared.refusal.EntryFault.TheVariants as fault_is;
+ghost use Rattle.bohm_entries.specs.declared.refusal.Refusal.{Refusal as TheRefusal};
+ghost use Rattle.bohm_ledger.specs.declared.error.MachineFault.TheVariants as machine_is;
+ghost use Rattle.bohm_replay.specs.declared.past.NumberFault.TheVariants as number_is;
 ghost use Rattle.bohm_replay.specs.Entries.{IsLogOf, IsRun, reply_line, request_with, state_of};
 
 use crate::admitting::admit;
 use crate::answer_text::AnswerText;
-use crate::past::Past;
+use crate::past::{NumberFault, Past};
 use crate::reading::{read_call, read_define};
 use crate::texts::{defined_text, note_request, reply_text};
 use bohm_entries::{
@@ -19,7 +24,7 @@ use bohm_entries::{
 use bohm_ledger::{Answer, Machine, MachineFault, Ran};
 use bohm_log::DrawnSeed;
 use bohm_procedures::Calls;
-use bohm_text::{Words, split_line};
+use bohm_text::{Words, print_doc, split_line};
 use bohm_txn::Checked;
 use bohm_types::{Cell, Edition, Key, Value};
 use std::alloc::Global;
@@ -36,7 +41,10 @@ pub struct EntryMachine<P: Past + Drop> {
     top: u64,
 }
 
-fn fault_of(fault: EntryFault) -> MachineFault {
+fn fault_of(fault: EntryFault) -> MachineFault
+    ensures refused { result ≡ machine_is.Unreadable → (r : TheRefusal) × (fault ≡ fault_is.Refused r) }
+    ensures not_full { result ≢ machine_is.Full }
+{
     match fault {
         EntryFault::Refused(_) => MachineFault::Unreadable,
         EntryFault::NoMemory => MachineFault::OutOfMemory,
@@ -58,12 +66,49 @@ impl<P: Past + Drop> EntryMachine<P> {
         }
     }
 
+    /// What runs its transactions.
+    pub fn past(&self) -> &P
+        ensures { result.now ≡ self.now.past }
+    {
+        &self.past
+    }
+
+    /// The text of a log of the transaction that an entry is, a call's written out. Nothing for a
+    /// definition. The time is that of reading the entry.
+    pub fn print_entry(&self, entry: &[u8]) -> Result<Option<Vec<u8>>, MachineFault> {
+        let Some((line, lines)) = split_line(entry) else {
+            return Err(MachineFault::Unreadable);
+        };
+        let Some(first) = read_first_line(line) else {
+            return Err(MachineFault::Unreadable);
+        };
+        let printed = match first.kind {
+            Kind::Define => return Ok(None),
+            Kind::Call => self.call_log(first.rest)?.print(self.alloc),
+            Kind::Transaction => {
+                match read_transaction(self.alloc, self.seed, self.edition, lines) {
+                    Ok(log) => print_doc(self.alloc, log.doc()),
+                    Err(fault) => return Err(fault_of(fault)),
+                }
+            }
+        };
+        match printed {
+            Ok(text) => Ok(Some(text)),
+            Err(_) => Err(MachineFault::OutOfMemory),
+        }
+    }
+
     /// Whether the text is one entry that is to be run next. Else the first refusal that applies is
     /// answered. The time is that of reading it.
     pub fn admit(&self, entry: &[u8]) -> Result<(), EntryFault>
         ensures one { OnOk result (entries_of entry.now ≡ whole_lines entry.now ∷ []) }
         ensures spelled { OnOk result (IsSome (entry_in (record { edition = self.now.edition; procedures = self.now.definitions })
             (whole_lines entry.now))) }
+        ensures taken { OnOk result (IsEntry (record { edition = self.now.edition; procedures = self.now.definitions }) entry.now) }
+        ensures refused { (r : TheRefusal) → result ≡ Err (fault_is.Refused r)
+            → Refuses (record { edition = self.now.edition; procedures = self.now.definitions }) entry.now r }
+        ensures no_entry { (r : TheRefusal) → result ≡ Err (fault_is.Refused r)
+            → ¬ IsEntry (record { edition = self.now.edition; procedures = self.now.definitions }) entry.now }
     {
         admit(
             self.alloc,
@@ -72,6 +117,30 @@ impl<P: Past + Drop> EntryMachine<P> {
             &self.definitions,
             entry,
         )
+    }
+
+    /// What a key held after the transaction with this number, from the last checkpoint on. The
+    /// time is that of one look-up.
+    pub fn value_at(&self, key: &Key, number: u64) -> Result<Cell, NumberFault>
+        ensures future { result ≡ Err number_is.Future → self.now.top < number }
+        ensures trimmed { result ≡ Err number_is.Trimmed → number + P.since self.now.past < self.now.top }
+        ensures within { number ≤ self.now.top → self.now.top ≤ number + P.since self.now.past
+            → result ≡ Ok (P.past self.now.past ((number + P.since self.now.past) - self.now.top) key.now) }
+        ensures last { number ≡ self.now.top → result ≡ Ok (P.look self.now.past key.now) }
+        ensures first { number + P.since self.now.past ≡ self.now.top → result ≡ Ok (P.saved self.now.past key.now) }
+    {
+        if number > self.top {
+            return Err(NumberFault::Future);
+        }
+        let back = self.top - number;
+        let since = self.past.ran_since();
+        if back > since {
+            return Err(NumberFault::Trimmed);
+        }
+        match self.past.value_after(since - back, key) {
+            Some(cell) => Ok(cell),
+            None => Err(NumberFault::Trimmed),
+        }
     }
 
     /// Runs the only transaction of a log. Returns its reply.
@@ -85,6 +154,9 @@ impl<P: Past + Drop> EntryMachine<P> {
         ensures top { OnOk result (self.new.top ≡ self.old.top + 1) }
         ensures definitions { self.new.definitions ≡ self.old.definitions }
         ensures edition { self.new.edition ≡ self.old.edition }
+        ensures room { OnOk result (P.room self.old.past ≤ P.room self.new.past + 1) }
+        ensures unreadable { result ≡ Err machine_is.Unreadable → 0 < length log.now.store }
+        ensures full { result ≡ Err machine_is.Full → (P.room self.old.past ≡ 0) ⊎ (2 ^ 64 ≤ self.old.top + 1) }
     {
         if self.top == u64::MAX {
             return Err(MachineFault::Full);
@@ -110,6 +182,9 @@ impl<P: Past + Drop> EntryMachine<P> {
         ensures top { self.new.top ≡ self.old.top }
         ensures definitions { OnOk result (self.new.definitions
             ≡ definitions_with self.old.definitions (define_of words.entry (whole_lines lines.now))) }
+        ensures unreadable { result ≡ Err machine_is.Unreadable → IsSome (named words.entry)
+            → ¬ IsDefinition self.old.edition lines.now }
+        ensures not_full { result ≢ Err machine_is.Full }
     {
         let (name, procedure) = match read_define(
             self.alloc,
@@ -132,20 +207,21 @@ impl<P: Past + Drop> EntryMachine<P> {
 
     /// The log of the call of these words behind the kind and the id.
     fn call_log(&self, words: Words<'_>) -> Result<Calls, MachineFault>
-        ensures { IfOk result (λ calls. IsLogOf self.now.definitions words.entry calls.log) }
+        ensures log { IfOk result (λ calls. IsLogOf self.now.definitions words.entry calls.log) }
+        ensures store { IfOk result (λ calls. calls.store ≡ []) }
+        ensures unreadable { result ≡ Err machine_is.Unreadable → ¬ IsCalling self.now.definitions words.entry }
+        ensures not_full { result ≢ Err machine_is.Full }
     {
         let call = match read_call(self.alloc, &self.definitions, words) {
             Ok(call) => call,
             Err(fault) => return Err(fault_of(fault)),
         };
-        let Ok(mut calls) = self.past.calls(self.edition) else {
+        // All procedures of a ledger have its edition. The list takes the procedure whatever it is.
+        let Ok(mut calls) = self.past.calls(call.procedure.edition()) else {
             return Err(MachineFault::OutOfMemory);
         };
         let keys = call.arguments.keys.as_slice();
         let values = call.arguments.values.as_slice();
-        if !calls.takes(call.procedure, keys, values) {
-            return Err(MachineFault::Unreadable);
-        }
         let Ok(()) = calls.push(call.procedure, keys, values) else {
             return Err(MachineFault::OutOfMemory);
         };
@@ -159,11 +235,11 @@ impl<P: Past + Drop> EntryMachine<P> {
             (called_of self.old.definitions words.entry) 1
             (state_of self.new.edition self.new.definitions (P.look self.new.past) self.new.top) text.items) }
         ensures saved { OnOk result (P.saved self.new.past ≡ P.saved self.old.past) }
+        ensures unreadable { result ≡ Err machine_is.Unreadable → ¬ IsCalling self.old.definitions words.entry }
+        ensures room { OnOk result (P.room self.old.past ≤ P.room self.new.past + 1) }
+        ensures full { result ≡ Err machine_is.Full → (P.room self.old.past ≡ 0) ⊎ (2 ^ 64 ≤ self.old.top + 1) }
     {
         let calls = self.call_log(words)?;
-        if calls.len() != 1 {
-            return Err(MachineFault::Unreadable);
-        }
         self.transact(calls.segment())
     }
 
@@ -174,6 +250,9 @@ impl<P: Past + Drop> EntryMachine<P> {
             (transaction_of self.old.edition (whole_lines lines.now)) 1
             (state_of self.new.edition self.new.definitions (P.look self.new.past) self.new.top) text.items) }
         ensures saved { OnOk result (P.saved self.new.past ≡ P.saved self.old.past) }
+        ensures unreadable { result ≡ Err machine_is.Unreadable → ¬ IsTransaction self.old.edition lines.now }
+        ensures room { OnOk result (P.room self.old.past ≤ P.room self.new.past + 1) }
+        ensures full { result ≡ Err machine_is.Full → (P.room self.old.past ≡ 0) ⊎ (2 ^ 64 ≤ self.old.top + 1) }
     {
         match read_transaction(self.alloc, self.seed, self.edition, lines) {
             Ok(log) => self.transact(&log),
@@ -189,6 +268,11 @@ impl<P: Past + Drop> EntryMachine<P> {
             (weight_of first.entry.kind)
             (state_of self.new.edition self.new.definitions (P.look self.new.past) self.new.top) text.items) }
         ensures saved { OnOk result (P.saved self.new.past ≡ P.saved self.old.past) }
+        ensures unreadable { result ≡ Err machine_is.Unreadable → HasForm first.entry.kind first.entry.rest lines.now
+            → ¬ Says (record { edition = self.old.edition; procedures = self.old.definitions }) first.entry.kind first.entry.rest lines.now }
+        ensures room { OnOk result (P.room self.old.past ≤ P.room self.new.past + weight_of first.entry.kind) }
+        ensures full { result ≡ Err machine_is.Full → (weight_of first.entry.kind ≡ 1)
+            × ((P.room self.old.past ≡ 0) ⊎ (2 ^ 64 ≤ self.old.top + 1)) }
     {
         match first.kind {
             Kind::Define => self.define(first.rest, lines),
@@ -211,6 +295,11 @@ impl<P: Past + Drop> EntryMachine<P> {
         ensures answers { IfOk result (λ text. answers.new.items
             ≡ answers.old.items ++ request_with (id_in (whole_lines entry.now)) text) }
         ensures saved { OnOk result (P.saved self.new.past ≡ P.saved self.old.past) }
+        ensures unreadable { result ≡ Err machine_is.Unreadable
+            → ¬ IsEntry (record { edition = self.old.edition; procedures = self.old.definitions }) entry.now }
+        ensures room { OnOk result (P.room self.old.past ≤ P.room self.new.past + weight (whole_lines entry.now)) }
+        ensures full { result ≡ Err machine_is.Full → (weight (whole_lines entry.now) ≡ 1)
+            × ((P.room self.old.past ≡ 0) ⊎ (2 ^ 64 ≤ self.old.top + 1)) }
     {
         let Some((line, lines)) = split_line(entry) else {
             return Err(MachineFault::Unreadable);
@@ -233,6 +322,9 @@ impl<P: Past + Drop> EntryMachine<P> {
         ensures past { self.new.past ≡ self.old.past }
         ensures edition { self.new.edition ≡ self.old.edition }
         ensures top { self.new.top ≡ self.old.top }
+        ensures unreadable { result ≡ Err machine_is.Unreadable
+            → ¬ IsEntry (record { edition = self.old.edition; procedures = self.old.definitions }) entry.now }
+        ensures not_full { result ≢ Err machine_is.Full }
     {
         if !is_definition(entry) {
             return Ok(());
@@ -254,7 +346,7 @@ impl<P: Past + Drop> EntryMachine<P> {
 impl<P: Past + Drop> Machine for EntryMachine<P> {
     ghost use Rattle.std.specs.Prelude.{List, ℕ};
     ghost use Rattle.bohm_entries.specs.Batches.{Defined, entries_of};
-    ghost use Rattle.bohm_replay.specs.Entries.{answers_by, entry_rules, state_of};
+    ghost use Rattle.bohm_replay.specs.Entries.{IsBatch, answers_by, entry_rules, room_after, state_of};
     ghost use Rattle.bohm_replay.specs.Ruling.{are_rules};
 
     type Reply = AnswerText;
@@ -268,6 +360,10 @@ impl<P: Past + Drop> Machine for EntryMachine<P> {
     ghost state = { λ m. state_of m.edition m.definitions (P.look m.past) m.top };
 
     ghost saved = { λ m. P.saved m.past };
+
+    ghost reads = { λ d text. IsBatch d text };
+
+    ghost room = { λ m. room_after (P.since m.past) (P.room m.past) };
 
     fn top(&self) -> u64 {
         self.top

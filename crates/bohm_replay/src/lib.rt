@@ -11,4 +11,4 @@ mod texts;
 
 pub use answer_text::AnswerText;
 pub use entry_machine::EntryMachine;
-pub use past::Past;
+pub use past::{NumberFault, Past};

@@ -1,9 +1,12 @@
 //! What the lines of an entry say.
 
-ghost use Rattle.std.specs.Prelude.{◌≡◌, ◌∷◌, [], Some, IfOk};
+ghost use Rattle.std.specs.Prelude.{◌≡◌, ◌⊎◌, ◌∷◌, [], Err, None, Some, IfOk, IsSome, OnOk, length};
 ghost use Rattle.bohm_text.specs.Cut.{whole_lines};
 ghost use Rattle.bohm_entries.specs.Meaning.{Define};
 ghost use Rattle.bohm_entries.specs.Batches.{define_of, named};
+ghost use Rattle.bohm_entries.specs.Refusals.{Calls, IsDefinition, RefusesCall, RefusesDefinition};
+ghost use Rattle.bohm_entries.specs.declared.refusal.EntryFault.TheVariants as fault_is;
+ghost use Rattle.bohm_entries.specs.declared.refusal.Refusal.{Refusal as TheRefusal};
 ghost use Rattle.bohm_replay.specs.Entries.{IsCallOf};
 
 use bohm_entries::{Arguments, Definitions, EntryFault, Refusal, read_arguments, read_definition};
@@ -14,7 +17,7 @@ use bohm_types::{Edition, Key};
 use std::alloc::Global;
 
 /// The name that the words spell, if they are one word.
-fn name_of(mut words: Words<'_>) -> Option<Key>
+pub(crate) fn name_of(mut words: Words<'_>) -> Option<Key>
     ensures { result ≡ named words.entry }
 {
     let word = words.next()?;
@@ -33,7 +36,11 @@ pub(crate) fn read_define(
     words: Words<'_>,
     lines: &[u8],
 ) -> Result<(Key, Procedure), EntryFault>
-    ensures { IfOk result (λ it. define_of words.entry (whole_lines lines.now) ≡ Some (Define it.0 it.1)) }
+    ensures found { IfOk result (λ it. define_of words.entry (whole_lines lines.now) ≡ Some (Define it.0 it.1)) }
+    ensures named { OnOk result (IsSome (named words.entry)) }
+    ensures taken { OnOk result (IsDefinition edition lines.now) }
+    ensures refused { (r : TheRefusal) → result ≡ Err (fault_is.Refused r)
+        → (named words.entry ≡ None) ⊎ RefusesDefinition edition lines.now r }
 {
     let Some(name) = name_of(words) else {
         return Err(EntryFault::Refused(Refusal::Shape));
@@ -57,7 +64,12 @@ pub(crate) fn read_call<'a>(
     definitions: &'a Definitions,
     words: Words<'_>,
 ) -> Result<Call<'a>, EntryFault>
-    ensures { IfOk result (λ it. IsCallOf definitions.now words.entry it.procedure.now it.arguments.keys.items it.arguments.values.items) }
+    ensures found { IfOk result (λ it. IsCallOf definitions.now words.entry it.procedure.now it.arguments.keys.items it.arguments.values.items) }
+    ensures counts { IfOk result (λ it. (length it.arguments.keys.items ≡ length it.procedure.now.keys)
+        × (length it.arguments.values.items ≡ length it.procedure.now.values)) }
+    ensures taken { OnOk result (Calls definitions.now words.entry) }
+    ensures refused { (r : TheRefusal) → result ≡ Err (fault_is.Refused r)
+        → (words.entry ≡ []) ⊎ RefusesCall definitions.now words.entry r }
 {
     let mut rest = words;
     let Some(name) = rest.next() else {

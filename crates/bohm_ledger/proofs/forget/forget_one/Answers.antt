@@ -4,6 +4,7 @@ use Rattle.sqlite_trees.specs.Tree.{without_rowid}
 use Rattle.sqlite_trees.specs.View.{IsClean, SetsTree}
 use Rattle.bohm_ledger.specs.Rows.{Has, batch_tree}
 use Rattle.bohm_ledger.proofs.Forgetting as lemma
+use Rattle.bohm_ledger.proofs.Placing.{are_batches}
 use Rattle.bohm_ledger.proofs.forget.forget_one.Goals as goal
 
 pub returns-clause-ok : goal.returns-clause-ok
@@ -17,3 +18,9 @@ returns-clause-ok g c clean =
     lemma.forgets_one _ _ _ _ mid now c.in-Some.at c.in-Some.first _ (c.in_ok-next_batch.ensures.same before)
     (subst (λ z. SetsTree mid now batch_tree (without_rowid z)) same (c.in_ok-delete.ensures.ok clean)) there
     (sym c.is_plain.ensures ∙ c.if-not-is_plain.false) (omega arith) (omega arith)
+
+pub returns-in_default-clause-no_ledger : goal.returns-in_default-clause-no_ledger
+returns-in_default-clause-no_ledger g c is clean checkpoint bs low placed kept =
+    let there = c.in_ok-next_batch.ensures.there clean c.if-not-branch.false in
+    let form = are_batches g.M.Machine.rules checkpoint bs 1 1 ((g.S.Store.view c.args.store.now).trees batch_tree) kept c.next_batch.new.row there in
+    c.in_default.ensures form.0 form.1 form.2 form.3

@@ -1,5 +1,6 @@
-use Rattle.std.proofs.Common.{arith}
+use Rattle.std.proofs.Common.{arith, sym, ◌∙◌}
 use Rattle.std.proofs.lemmas.Result.{err_from_is_err_and}
+use Rattle.bohm_ledger.proofs.Placing.{kept}
 use Rattle.bohm_ledger.proofs.Ready as lemma
 use Rattle.bohm_ledger.proofs.ledger.Ledger.forget_before.Goals as goal
 
@@ -26,3 +27,11 @@ pub returns-in_err-forget-clause-unchanged : goal.returns-in_err-forget-clause-u
 returns-in_err-forget-clause-unchanged g c =
     let p = err_from_is_err_and c.from_residual.result c.from_residual.ensures.1 in
     rw p.1 (λ clean is_open bs ready. lemma.undone _ _ _ _ _ _ _ _ ready _ (c.in_err-forget.ensures.err clean is_open))
+
+pub returns-in_err-forget-clause-no_ledger : goal.returns-in_err-forget-clause-no_ledger
+returns-in_err-forget-clause-no_ledger g c is clean bs ready =
+    let p = err_from_is_err_and c.from_residual.result c.from_residual.ensures.1 in
+    let told = sym p.1 ∙ is in
+    let same = p.2 in
+    c.in_err-forget.ensures.no_ledger (cc) clean c.args.self.now.checkpoint bs (omega (arith, c.min-bound.ensures)) ready.placed
+    (kept _ _ _ _ _ _ _ _ ready)

@@ -24,3 +24,8 @@ returns-in_ok-from_slice-in-Some-clause-found g c clean bs ready =
     let found = rw c.if-not-branch.false at (c.in_ok-find.ensures.ok clean (lemma.all_requests _ _ _ _ _ _ _ _ ready)) in
     lemma.answered _ _ _ _ _ _ _ _ ready c.args.id.now _ c.in-Some.place c.find.new.row found.0 found.1 c.in-Some.ensures.0
     (c.in-Some.ensures.1 ∙ ap Text (sym c.in_ok-from_slice-in-Some.ensures.items))
+
+pub returns-in-None-clause-no_ledger : goal.returns-in-None-clause-no_ledger
+returns-in-None-clause-no_ledger g c is clean bs ready =
+    let found = rw c.if-not-branch.false at (c.in_ok-find.ensures.ok clean (lemma.all_requests _ _ _ _ _ _ _ _ ready)) in
+    lemma.found_request _ _ _ _ _ _ _ _ ready c.find.new.row found.0 c.in-None.ensures

@@ -6,7 +6,7 @@ use Rattle.bohm_replay.proofs.entry_machine.EntryMachine.call.Goals as goal
 
 pub returns-clause-ran : goal.returns-clause-ran
 returns-clause-ran g c =
-    let log = c.in_ok-calls.ensures in
+    let log = c.in_ok-calls.ensures.log in
     lemma.if_all _ _ _ _ c.transact.result (λ text told look top.
     let is : c.segment.result.now.log ≡ instance log.procedure log.keys log.values ∷ [] = ap (λ (d : Document). d.log) c.segment.ensures ∙ log.only in
     lemma.landed _ _ _ _ _ _ _ _ _ _ _ c.transact.ensures.edition c.transact.ensures.definitions top

@@ -1,5 +1,6 @@
 use Rattle.std.proofs.Common.{◌≡◌, length}
 use Rattle.bohm_entries.specs.Batches.{defined_by, entries_of}
+use Rattle.bohm_replay.specs.Entries.{IsBatch}
 use Rattle.bohm_replay.proofs.entry_machine.EntryMachineMachine.pass.Given as goal
 
 abbrev pub invariant-entries : goal.invariant-entries
@@ -10,6 +11,8 @@ invariant-entries g l =
           ≡ defined_by (record { edition = was.edition; procedures = was.definitions }) (entries_of l.batch);
       past : l.self.past ≡ was.past;
       top : l.self.top ≡ was.top;
+      reads : IsBatch (record { edition = was.edition; procedures = was.definitions }) l.batch
+          → IsBatch (record { edition = l.self.edition; procedures = l.self.definitions }) l.rest;
     }
 
 abbrev pub decreases-entries : goal.decreases-entries
