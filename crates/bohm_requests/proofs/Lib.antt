@@ -1,0 +1,3 @@
+mod Walking
+mod Collecting
+mod Committing

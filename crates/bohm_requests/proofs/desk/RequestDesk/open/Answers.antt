@@ -1,0 +1,4 @@
+use Rattle.bohm_requests.proofs.desk.RequestDesk.open.Goals as goal
+
+pub returns-in-Ok-open-clause-ready : goal.returns-in-Ok-open-clause-ready
+returns-in-Ok-open-clause-ready g c = rw c.new-in-Ok-open.ensures c.in-Ok-open.ensures.ready

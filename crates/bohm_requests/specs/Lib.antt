@@ -1,0 +1,4 @@
+pub mod Lines
+pub mod Taking
+pub mod Knowing
+pub mod Desks
