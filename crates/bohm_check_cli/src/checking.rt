@@ -3,17 +3,15 @@
 ghost use Rattle.std.specs.Prelude.{◌≡◌, ◌⊎◌, OnOk, IfErr, IfOk, None, ℕ, List, Option};
 ghost use Rattle.bohm_answer.specs.Bytes.{ReadsAll};
 ghost use Rattle.bohm_check_cli.specs.Checking.{IsGood, IsGoodLog, IsGoodProcedure, IsProcedureText};
-ghost use Rattle.bohm_check_cli.specs.Checking.{RefusesProcedure, RefusesText, RefusesToTell, Tells};
-ghost use Rattle.bohm_check_cli.specs.Checking.{ReadsProcedure, procedure_refusal};
+ghost use Rattle.bohm_check_cli.specs.Checking.{ReadsProcedure, RefusesToTell, Tells};
+ghost use Rattle.bohm_report.specs.Procedures.{RefusesLogOrProcedure, RefusesProcedure};
 ghost use Rattle.bohm_report.specs.Refused.{RunRefuses};
 ghost use Rattle.bohm_run.specs.Headline.{IsBeforeWriting};
 
 use bohm_answer::{RunFault, read_all, write_all};
-use bohm_check::{ProcedureSummary, Summary, check_procedure, is_procedure, put_notes};
+use bohm_check::{ProcedureSummary, Summary, is_procedure, put_notes};
 use bohm_log::DrawnSeed;
-use bohm_procedures::ProcedureFault;
-use bohm_report::check_reported;
-use bohm_text::TextFault;
+use bohm_report::{check_reported, procedure_reported};
 use std::alloc::Global;
 use std::io::{Read, Write};
 use std::random::RandomSource;
@@ -35,19 +33,6 @@ fn log_line<T: RandomSource>(
     Ok(summary.print(alloc)?)
 }
 
-/// The refusal of a procedure's text.
-fn refusal_of(fault: ProcedureFault) -> RunFault
-    ensures is { result ≡ procedure_refusal fault }
-    ensures before { IsBeforeWriting result }
-{
-    match fault {
-        ProcedureFault::Line(n) => RunFault::Text(TextFault::Line(n)),
-        ProcedureFault::Short => RunFault::Text(TextFault::Short),
-        ProcedureFault::Check(fault) => RunFault::Check(fault),
-        ProcedureFault::NoMemory => RunFault::NoMemory,
-    }
-}
-
 /// The summary line of a procedure's text.
 fn procedure_line<T: RandomSource>(
     rt: &T,
@@ -60,13 +45,9 @@ fn procedure_line<T: RandomSource>(
     ensures before { IfErr result IsBeforeWriting }
 {
     let seed = DrawnSeed::draw(rt);
-    match check_procedure(alloc, seed, text, report) {
-        Ok(procedure) => {
-            let _ = put_notes(alloc, seed, text, report);
-            Ok(ProcedureSummary::of(&procedure, text).print(alloc)?)
-        }
-        Err(fault) => Err(refusal_of(fault)),
-    }
+    let procedure = procedure_reported(alloc, seed, text, report)?;
+    let _ = put_notes(alloc, seed, text, report);
+    Ok(ProcedureSummary::of(&procedure, text).print(alloc)?)
 }
 
 /// Reads a log or a procedure to the reader's end, and writes only its summary line. It refuses a log
@@ -109,7 +90,7 @@ fn answer_line<T: RandomSource>(
     ensures good { IfOk result (λ line. IsGood text.now line.items) }
     ensures silent { OnOk result (report.new ≡ report.old ⊎ IsProcedureText text.now) }
     ensures err { IfErr result (λ e. (unread unread' : Option (List ℕ))
-        → ReadsAll unread unread' text.now → RefusesText unread unread' e) }
+        → ReadsAll unread unread' text.now → RefusesLogOrProcedure unread unread' e) }
     ensures before { IfErr result IsBeforeWriting }
 {
     if is_procedure(text) {

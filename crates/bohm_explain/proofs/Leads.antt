@@ -5,7 +5,7 @@ use Rattle.std.specs.List.{find}
 use Rattle.std.proofs.lemmas.List.{take_more}
 use Rattle.std.proofs.lemmas.List.Folds.{find-append}
 use Rattle.bohm_explain.specs.declared.heat.Heat.{Heat}
-use Rattle.bohm_explain.specs.Verdict.{longest, leading}
+use Rattle.bohm_explain.specs.Table.{longest, leading}
 
 pub longest_push : (xs : List Heat) (h : Heat) → longest (xs ++ h ∷ []) ≡ max (longest xs) h.chain
 longest_push [] h = omega arith

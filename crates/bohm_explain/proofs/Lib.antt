@@ -16,14 +16,12 @@ mod Tallying
 mod Raising
 mod Noting
 mod Cutting
-mod Pieces
-mod Items
 mod Ranks
 mod Leads
-mod HeatLines
-mod Texts
 mod Surveys
 mod Requests
 mod Wants
+mod CallCosts
+mod Appended
 mod Told
 mod Answered

@@ -1,5 +1,5 @@
 -- The parts and the counts of a log after one more part, and lists of distinct keys.
-use Rattle.std.proofs.Common.{◌≡◌, ◌∙◌, ℕ, ◌+◌, ◌<◌, List, [], ◌∷◌, ◌++◌, length, take, get_or, refl, ap, subst, add-one}
+use Rattle.std.proofs.Common.{◌≡◌, ◌∙◌, ℕ, suc, ◌+◌, ◌<◌, List, [], ◌∷◌, ◌++◌, length, take, get_or, refl, ap, arith, subst, add-one}
 use Rattle.std.proofs.lemmas.List.{get_or_default}
 use Rattle.std.specs.List.{IsDistinct}
 use Rattle.std.specs.Str.{bytes_eq}
@@ -22,16 +22,17 @@ use Rattle.bohm_txn.proofs.ForCallers.{apart_each, not_true}
 
 -- the part with what was found of it
 pub part_made : (c : Cutting) (ways : List Sharing) (i first : ℕ) (d : Sharing) (figures : Figures) → i < length ways → first ≡ first_at c i
-    → figures ≡ figures_of (txns_at c i) → record { first = first; sharing = get_or ways i d; figures = figures } ≡ part_at c ways i
+    → figures ≡ figures_of (txns_at c i) → record { number = i + 1; first = first; sharing = get_or ways i d; figures = figures } ≡ part_at c ways i
 part_made c ways i first d figures low is_first are_figures =
     let same : get_or ways i d ≡ get_or ways i OneWorker = get_or_default ways i d OneWorker low in
-    λ j. record { first = is_first j; sharing = same j; figures = are_figures j }
+    λ j. record { number = i + 1; first = is_first j; sharing = same j; figures = are_figures j }
 
 module _ (c : Cutting) (i : ℕ) (low : i < length c.sizes) (txns : List Txn) (is : txns ≡ txns_at c i) where
   pub parts_more : (ways : List Sharing) (old new : List Part) (p : Part) → old ≡ parts_below c ways i → p ≡ part_at c ways i → new ≡ old ++ p ∷ []
       → new ≡ parts_below c ways (i + 1)
   parts_more ways old new p so_far of more =
-      let step : parts_below c ways i ++ part_at c ways i ∷ [] ≡ parts_below c ways (i + 1) = rw add-one refl in
+      let same : suc i ≡ i + 1 = omega arith in
+      let step : parts_below c ways i ++ part_at c ways i ∷ [] ≡ parts_below c ways (i + 1) = ap (parts_below c ways) same in
       more ∙ (ap (λ (ps : List Part). ps ++ p ∷ []) so_far ∙ (ap (λ (q : Part). parts_below c ways i ++ q ∷ []) of ∙ step))
 
   pub keys_more : (new : Gathering) → IsGathered (take (ahead c.sizes i) c.log ++ txns) (chained_below c i ++ chained txns ∷ []) new

@@ -12,6 +12,7 @@ use Rattle.bohm_txn.specs.declared.outcome.Reason.{Reason}
 use Rattle.bohm_txn.specs.declared.outcome.Reply.{Reply}
 use Rattle.bohm_txn.specs.declared.outcome.Reply.TheVariants.{Commit, Abort}
 use Rattle.bohm_text.specs.Print.{line_text, reason_word, stmt_words}
+use Rattle.bohm_explain.specs.Pieces.{joined}
 
 -- the line of the statement with a number, counted from 1; nothing if there is none
 abbrev pub statement_text : List Stmt → ℕ → List ℕ
@@ -21,8 +22,8 @@ statement_text body (suc i) = option_map_or (λ s. line_text (stmt_words s)) (sl
 -- of a transaction with this number, whose `txn` is on the line `opening`, followed by its reads, its writes and its body
 abbrev pub abort_line : ℕ → ℕ → List Stmt → Reason → ℕ → List ℕ
 abort_line t opening body reason stmt =
-    decimal t ++ (codes " abort " ++ reason_word reason ++ codes " ") ++ decimal stmt ++ codes ": " ++ statement_text body stmt
-    ++ codes " (line " ++ decimal (opening + 2 + stmt) ++ codes ")\n"
+    joined (decimal t ∷ (codes " abort " ++ reason_word reason ++ codes " ") ∷ decimal stmt ∷ codes ": " ∷ statement_text body stmt
+    ∷ codes " (line " ∷ decimal (opening + 2 + stmt) ∷ codes ")\n" ∷ [])
 
 abbrev pub reply_line : ℕ → ℕ → List Stmt → Reply → List ℕ
 reply_line t opening body (Commit shows) = []

@@ -1,6 +1,6 @@
 -- The parts of a log: what a run executes as one. Several workers share a window in batches, each of which is a part; another window runs on one thread, and is
 -- one part unless it has more transactions than a batch may have.
-use Rattle.std.specs.Prelude.{◌≡◌, ℕ, zero, suc, ◌/◌, ◌%◌, ◌==◌, List, [], ◌∷◌, ◌++◌, length, replicate, flat_map, slice_index_or, if◌then◌else◌}
+use Rattle.std.specs.Prelude.{◌≡◌, ℕ, zero, suc, ◌+◌, ◌/◌, ◌%◌, ◌==◌, List, [], ◌∷◌, ◌++◌, length, replicate, flat_map, slice_index_or, if◌then◌else◌}
 use Rattle.bohm_types.specs.Txn.{Txn}
 use Rattle.bohm_types.specs.Limits.{largest_batch}
 use Rattle.bohm_settings.specs.Given.{Given}
@@ -43,9 +43,10 @@ cutting given windows = record { first = 1; log = together windows; sizes = flat
 abbrev pub ways : Given → List (List Txn) → List Sharing
 ways given windows = flat_map (ways_of given) windows
 
--- the part at an index: the place of its first transaction in the log, how it runs, and the figures of its transactions
+-- the part at an index: its number, the place of its first transaction in the log, how it runs, and the figures of its transactions
 abbrev pub part_at : Cutting → List Sharing → ℕ → Part
 part_at c ways i = record {
+  number = i + 1;
   first = first_at c i;
   sharing = slice_index_or ways i OneWorker;
   figures = figures_of (txns_at c i);

@@ -9,17 +9,14 @@ use Rattle.bohm_read_ahead.specs.declared.checked_chunk.Sharing.{Sharing}
 use Rattle.bohm_explain.specs.declared.heat.Heat.{Heat}
 use Rattle.bohm_explain.specs.declared.parts.Part.{Part}
 use Rattle.bohm_explain.specs.Asked.{Asked}
-use Rattle.bohm_explain.specs.ChainText.{chain_text}
 use Rattle.bohm_explain.specs.Chains.{IsChainOf}
-use Rattle.bohm_explain.specs.Figures.{alike, depths, totals_of}
+use Rattle.bohm_explain.specs.Figures.{alike, depths}
 use Rattle.bohm_explain.specs.Heats.{AreHeatsOf, Chained}
 use Rattle.bohm_explain.specs.Heaviest.{heaviest_from, through}
-use Rattle.bohm_explain.specs.Hottest.{hottest_text}
 use Rattle.bohm_explain.specs.Json.{json_text}
 use Rattle.bohm_explain.specs.Parts.{AreCut, parts_in}
 use Rattle.bohm_explain.specs.Ranking.{IsRanking}
-use Rattle.bohm_explain.specs.Table.{table_text}
-use Rattle.bohm_explain.specs.Verdict.{verdict_text}
+use Rattle.bohm_explain.specs.Table.{plain_text}
 use Rattle.bohm_explain.specs.Wanted.{arrows}
 
 -- the transactions on the longest chain of wanted versions that begins at each position
@@ -58,8 +55,7 @@ pub record IsLongestChain (c : Cutting) (places : List ℕ) : Type 0 where
 -- a table, the first `top` keys, the longest chain and the last line; or the same in JSON
 abbrev pub figures_text : Asked → List Part → List Heat → List ℕ → List ℕ
 figures_text asked ps ranked longest =
-    if asked.layout.json then json_text asked ps ranked longest
-    else (table_text asked.layout.summary ps ++ hottest_text asked.top ranked ++ chain_text longest ++ verdict_text (totals_of ps) ranked)
+    if asked.layout.json then json_text asked ps ranked longest else plain_text asked.layout.summary asked.top ps ranked longest
 
 -- the parts that a run with these settings makes, in order and together the log: where each begins and ends, and how it runs
 pub record IsCutUp (given : Given) (log : List Txn) : Type 0 where

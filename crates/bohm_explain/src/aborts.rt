@@ -5,7 +5,7 @@ ghost use Rattle.bohm_txn.specs.ReplyRows.{reply_shown};
 ghost use Rattle.bohm_explain.specs.Aborts.{abort_line, aborts_in, aborts_of, reply_line};
 ghost use Rattle.bohm_explain.specs.Aborts.{statement_text};
 
-use crate::decimal::put_decimal;
+use crate::pieces::{Piece, put};
 use bohm_log::TxnView;
 use bohm_serial::run;
 use bohm_text::{abort_text, put_stmt};
@@ -46,15 +46,18 @@ fn put_abort(
     ensures { IfOk result (λ _. out.new.items
         ≡ out.old.items ++ abort_line place.number place.opening txn.now.body reason stmt) }
 {
-    put_decimal(out, place.number)?;
-    out.extend_from_slice(abort_text(reason))?;
-    put_decimal(out, stmt)?;
-    out.extend_from_slice(b": ")?;
+    put(
+        out,
+        &[
+            Piece::Decimal(b"", place.number),
+            Piece::Text(abort_text(reason)),
+            Piece::Decimal(b"", u64::from(stmt)),
+            Piece::Text(b": "),
+        ],
+    )?;
     put_statement(out, txn, stmt)?;
-    out.extend_from_slice(b" (line ")?;
-    put_decimal(out, place.opening + 2 + u128::from(stmt))?;
-    out.extend_from_slice(b")\n")?;
-    Ok(())
+    let line = place.opening + 2 + u128::from(stmt);
+    put(out, &[Piece::Long(b" (line ", line), Piece::Text(b")\n")])
 }
 
 /// Appends the line of an abort; nothing for a commit.

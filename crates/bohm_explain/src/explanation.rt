@@ -16,20 +16,17 @@ ghost use Rattle.bohm_explain.specs.Tallies.{CanTake, IsGathered};
 ghost use Rattle.bohm_types.specs.Limits.{largest_batch, most_txns};
 
 use crate::arrow::Arrow;
-use crate::chain_text::put_chain;
 use crate::chains::chains_through;
-use crate::figures::{Figures, Totals, counted};
+use crate::figures::{Figures, counted};
 use crate::gathering::Gathering;
 use crate::heat::Heat;
-use crate::hottest::put_hottest;
 use crate::json::put_json;
 use crate::longest::keep_longer;
 use crate::parts::{Part, cut_log};
 use crate::ranking::rank;
 use crate::request::Request;
 use crate::svg::print_svg;
-use crate::table::put_table;
-use crate::verdict::put_verdict;
+use crate::table::put_plain;
 use crate::waits::waits_in;
 use bohm_log::{DrawnSeed, HashSeed, LogPart};
 use bohm_place::{CutLog, Newest, Plan, plan_alone};
@@ -115,6 +112,7 @@ fn survey_log(
         newest = next;
         let (figures, arrows) = explain_part(alloc, &plan, &txns, &mut keys, &mut longest)?;
         parts.push(Part {
+            number: index + 1,
             first,
             sharing: ways[index as usize],
             figures,
@@ -148,10 +146,14 @@ fn print_figures(
         put_json(&mut out, request, parts, ranked, longest)?;
         return Ok(out);
     }
-    put_table(&mut out, layout.summary, parts)?;
-    put_hottest(&mut out, ranked, request.top())?;
-    put_chain(&mut out, longest)?;
-    put_verdict(&mut out, Totals::of(parts), ranked)?;
+    put_plain(
+        &mut out,
+        layout.summary,
+        request.top(),
+        parts,
+        ranked,
+        longest,
+    )?;
     Ok(out)
 }
 

@@ -1,19 +1,24 @@
 //! Laws over the definitions alone. No call uses them.
 
-ghost use Rattle.std.specs.Prelude.{◌≡◌, ◌+◌, ◌<◌, ◌≤◌, ◌↔◌, ℕ, List, All, Contains, length, map};
+ghost use Rattle.std.specs.Prelude.{◌≡◌, ◌+◌, ◌<◌, ◌≤◌, ◌↔◌, ℕ, List, [], ◌∷◌, All, Contains, length, map};
 ghost use Rattle.std.specs.Prelude.{slice_index};
-ghost use Rattle.std.specs.List.{sum};
+ghost use Rattle.std.specs.List.{AllByRecursion, sum};
+ghost use Rattle.bohm_types.specs.Procedure.{Procedure};
 ghost use Rattle.bohm_types.specs.Txn.{Txn};
 ghost use Rattle.bohm_explain.specs.declared.arrow.Arrow.{Arrow};
 ghost use Rattle.bohm_explain.specs.declared.heat.Heat.{Heat};
 ghost use Rattle.bohm_place.specs.Chains.{greatest};
 ghost use Rattle.bohm_place.specs.Cuttings.{Cutting};
 ghost use Rattle.bohm_place.specs.Plans.{IsRightPlan};
+ghost use Rattle.bohm_procedures.specs.Accepting.{own};
+ghost use Rattle.bohm_settings.specs.Given.{Given};
+ghost use Rattle.bohm_read_ahead.specs.Sharing.{sharing_of};
 ghost use Rattle.bohm_read_ahead.specs.declared.checked_chunk.Sharing.{Sharing};
 ghost use Rattle.bohm_board.specs.declared.batch.Batch.{Batch};
 ghost use Rattle.bohm_board.specs.Batches.{IsIn, Wants, plan_of, position, txns_of};
 ghost use Rattle.bohm_explain.specs.Chains.{EndsAt, IsChainOf, IsGreatest};
 ghost use Rattle.bohm_explain.specs.Chains.{IsWantedBy, LeadsOn, weight_of};
+ghost use Rattle.bohm_explain.specs.Costs.{IsCallOf};
 ghost use Rattle.bohm_explain.specs.Figures.{depths};
 ghost use Rattle.bohm_explain.specs.Heaviest.{AreRising, greatest_wanted, greatest_wanting};
 ghost use Rattle.bohm_explain.specs.Heaviest.{heaviest_from, heaviest_to};
@@ -86,4 +91,18 @@ pub fn arrows_are_wanted()
 pub fn one_ranking()
     ensures { (heats ranked other : List Heat)
         → IsRanking heats ranked → IsRanking heats other → ranked ≡ other }
+{}
+
+/// A call of a procedure has as many statements as the procedure's own instance, whose cost is
+/// printed, and declares no more keys: fewer where two of its arguments are one key. A list of calls
+/// is shared if the own instance is.
+pub fn costs_of_calls()
+    ensures statements { (p : Procedure) (t : Txn) → IsCallOf p t
+        → length t.body ≡ length (own p).body }
+    ensures reads { (p : Procedure) (t : Txn) → IsCallOf p t → length t.reads ≤ length (own p).reads }
+    ensures writes { (p : Procedure) (t : Txn) → IsCallOf p t
+        → length t.writes ≤ length (own p).writes }
+    ensures sharing { (given : Given) (p : Procedure) (calls : List Txn) → 0 < length calls
+        → AllByRecursion (IsCallOf p) calls
+        → sharing_of given calls ≡ sharing_of given (own p ∷ []) }
 {}

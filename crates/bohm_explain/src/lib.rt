@@ -1,35 +1,34 @@
 //! Why a log scales or doesn't: explains the parts that a run makes of it. Whether several workers
 //! share a part, which of its transactions wants which version, the chains that this makes, and the
-//! keys that cause them. And why transactions abort.
+//! keys that cause them. Why transactions abort, and what the calls of a procedure cost.
 #![tactic(auto)]
 
 mod aborts;
 mod arrow;
-mod chain_text;
 mod chains;
-mod decimal;
+mod costs;
 mod explanation;
 mod figures;
 mod gathering;
 mod heat;
-mod hottest;
 mod json;
 pub mod laws;
 mod layout;
 mod longest;
 mod parts;
+mod pieces;
 mod ranking;
 mod request;
 mod svg;
 mod table;
 mod tallies;
-mod verdict;
 mod waits;
 mod walking;
 mod weights;
 mod windows;
 
 pub use aborts::print_aborts;
+pub use costs::print_costs;
 pub use explanation::answer;
 pub use layout::Layout;
 pub use request::{LAST_PART, LISTED, MOST_LISTED, Request};

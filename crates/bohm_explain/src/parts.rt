@@ -18,6 +18,8 @@ use std::alloc::Global;
 /// A part of a log: transactions that a run executes as one.
 #[derive(Clone, Copy, Debug, PartialEq, Eq)]
 pub struct Part {
+    /// Its number, from 1.
+    pub number: u32,
     /// The place in the log of its first transaction, from 1.
     pub first: u32,
     /// Whether several workers share it, or why not.

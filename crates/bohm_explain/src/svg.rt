@@ -4,8 +4,10 @@
 ghost use Rattle.std.specs.Prelude.{◌≤◌};
 
 use crate::arrow::Arrow;
+use crate::figures::Totals;
 use crate::parts::Part;
-use crate::table::{put_quotient, word_for};
+use crate::pieces::{Piece, put};
+use crate::table::word_for;
 use bohm_log::{DrawnSeed, HashSeed};
 use bohm_read_ahead::Sharing;
 use bohm_types::{Key, NoMemory};
@@ -19,7 +21,7 @@ const MOST_BANDS: usize = 1000;
 /// The most conflicts that are drawn of a key.
 const MOST_ARCS: usize = 500;
 
-/// Where the bands begin, and how long the longest is.
+/// Where the bands begin, and how long the longest is: 250 and 770 are in the texts, too.
 const LEFT: u64 = 250;
 
 const LENGTH: u64 = 520;
@@ -50,92 +52,59 @@ fn line_at(index: usize) -> u64
     TOP + (index.min(MOST_BANDS + 1100) as u64) * LINE
 }
 
-fn put(out: &mut Vec<u8>, text: String) -> Result<(), NoMemory> {
-    out.extend_from_slice(text.as_bytes())?;
-    Ok(())
-}
-
 /// The colour of a part.
-fn colour(sharing: Sharing) -> &'static str {
+fn colour(sharing: Sharing) -> &'static [u8] {
     match sharing {
-        Sharing::Shared => "#9ec5e8",
-        Sharing::OneWorker | Sharing::NoTransactions | Sharing::ShortBodies => "#d4d4d4",
+        Sharing::Shared => b"#9ec5e8",
+        Sharing::OneWorker | Sharing::NoTransactions | Sharing::ShortBodies => b"#d4d4d4",
     }
 }
 
-/// Appends the words beside a band.
-fn put_label(out: &mut Vec<u8>, part: &Part) -> Result<(), NoMemory> {
-    let figures = part.figures;
-    out.extend_from_slice(word_for(part.sharing))?;
-    out.extend_from_slice(b", width ")?;
-    put_quotient(
-        out,
-        0,
-        u64::from(figures.transactions),
-        u64::from(figures.depth),
-    )?;
-    out.extend_from_slice(b", by terms ")?;
-    put_quotient(
-        out,
-        0,
-        u64::from(figures.terms),
-        u64::from(figures.heaviest),
-    )?;
-    Ok(())
-}
-
 /// Appends a part: a band as long as it has transactions, with its longest chain in it.
-fn put_band(
-    out: &mut Vec<u8>,
-    alloc: Global,
-    index: usize,
-    part: &Part,
-    most: u32,
-) -> Result<(), NoMemory> {
-    let figures = part.figures;
+fn put_band(out: &mut Vec<u8>, index: usize, part: &Part, most: u32) -> Result<(), NoMemory> {
+    let totals = Totals::from(part.figures);
+    let (transactions, depth) = (totals.transactions, totals.depth);
     let y = line_at(index);
-    let (long, chain) = (
-        scaled(figures.transactions, most),
-        scaled(figures.depth, most).max(1),
-    );
-    let (first, number) = (part.first, index.saturating_add(1));
-    let (transactions, depth, fill) = (figures.transactions, figures.depth, colour(part.sharing));
-    put(
-        out,
-        format!(in alloc;
-            "<g class=\"part\"><text x=\"12\" y=\"{y}\">{number}, from {first}</text>\n"
-        )?,
-    )?;
     let top = y - 13;
+    let long = scaled(part.figures.transactions, most);
+    let chain = scaled(part.figures.depth, most).max(1);
     put(
         out,
-        format!(in alloc;
-            "<rect x=\"{LEFT}\" y=\"{top}\" width=\"{long}\" height=\"18\" fill=\"{fill}\"><title>{transactions} transactions</title></rect>\n"
-        )?,
-    )?;
-    put(
-        out,
-        format!(in alloc;
-            "<rect x=\"{LEFT}\" y=\"{top}\" width=\"{chain}\" height=\"18\" fill=\"#c0504d\"><title>a chain of {depth}</title></rect>\n"
-        )?,
-    )?;
-    put(
-        out,
-        format!(in alloc; "<text x=\"786\" y=\"{y}\">{transactions}, chain {depth}, ")?,
-    )?;
-    put_label(out, part)?;
-    out.extend_from_slice(b"</text></g>\n")?;
-    Ok(())
+        &[
+            Piece::Decimal(b"<g class=\"part\"><text x=\"12\" y=\"", y),
+            Piece::Decimal(b"\">", u64::from(part.number)),
+            Piece::Decimal(b", from ", u64::from(part.first)),
+            Piece::Decimal(b"</text>\n<rect x=\"250\" y=\"", top),
+            Piece::Decimal(b"\" width=\"", long),
+            Piece::Text(b"\" height=\"18\" fill=\""),
+            Piece::Text(colour(part.sharing)),
+            Piece::Decimal(b"\"><title>", transactions),
+            Piece::Decimal(b" transactions</title></rect>\n<rect x=\"250\" y=\"", top),
+            Piece::Decimal(b"\" width=\"", chain),
+            Piece::Decimal(
+                b"\" height=\"18\" fill=\"#c0504d\"><title>a chain of ",
+                depth,
+            ),
+            Piece::Decimal(b"</title></rect>\n<text x=\"786\" y=\"", y),
+            Piece::Decimal(b"\">", transactions),
+            Piece::Decimal(b", chain ", depth),
+            Piece::Text(b", "),
+            Piece::Text(word_for(part.sharing)),
+            Piece::Quotient(b", width ", transactions, depth),
+            Piece::Quotient(b", by terms ", totals.terms, totals.heaviest),
+            Piece::Text(b"</text></g>\n"),
+        ],
+    )
 }
 
 /// Appends the first parts.
-fn put_bands(out: &mut Vec<u8>, alloc: Global, parts: &[Part]) -> Result<(), NoMemory> {
+fn put_bands(out: &mut Vec<u8>, parts: &[Part]) -> Result<(), NoMemory> {
     let mut most = 0;
     for part in parts {
         most = part.figures.transactions.max(most);
     }
     for (index, part) in parts.iter().enumerate() {
-        put_band(out, alloc, index, part, most)?;
+        put_band(out, index, part, most)?;
     }
     Ok(())
 }
@@ -177,27 +146,48 @@ fn conflicts_by_key(
     Ok(all)
 }
 
+/// Appends an arc between two positions, on a line at this height.
+fn put_arc(out: &mut Vec<u8>, y: u64, from: u64, to: u64) -> Result<(), NoMemory>
+    requires high { 16 ≤ y }
+    requires from { from ≤ 1000 }
+    requires to { to ≤ 1000 }
+{
+    put(
+        out,
+        &[
+            Piece::Decimal(b"<path d=\"M", from),
+            Piece::Decimal(b" ", y),
+            Piece::Decimal(b"Q", (from + to) / 2),
+            Piece::Decimal(b" ", y - 16),
+            Piece::Decimal(b" ", to),
+            Piece::Decimal(b" ", y),
+            Piece::Text(b"\" fill=\"none\" stroke=\"#c0504d\"/>\n"),
+        ],
+    )
+}
+
 /// Appends the conflicts on a key: an arc from each transaction that makes a version to one that
 /// wants it.
 fn put_key(
     out: &mut Vec<u8>,
-    alloc: Global,
     index: usize,
     of: &Conflicts,
     arrows: &[Arrow],
     transactions: u32,
 ) -> Result<(), NoMemory> {
     let y = line_at(index);
-    let end = LEFT + LENGTH;
-    let wanted = of.wanted;
-    out.extend_from_slice(b"<g class=\"key\"><text x=\"12\" y=\"")?;
-    put(out, format!(in alloc; "{y}\">")?)?;
-    out.extend_from_slice(of.key.text().as_slice())?;
+    let key = of.key.text();
     put(
         out,
-        format!(in alloc;
-            "</text><path d=\"M{LEFT} {y}H{end}\" stroke=\"#d4d4d4\"/><text x=\"786\" y=\"{y}\">{wanted} wanted</text>\n"
-        )?,
+        &[
+            Piece::Decimal(b"<g class=\"key\"><text x=\"12\" y=\"", y),
+            Piece::Text(b"\">"),
+            Piece::Text(key.as_slice()),
+            Piece::Decimal(b"</text><path d=\"M250 ", y),
+            Piece::Decimal(b"H770\" stroke=\"#d4d4d4\"/><text x=\"786\" y=\"", y),
+            Piece::Decimal(b"\">", u64::from(of.wanted)),
+            Piece::Text(b" wanted</text>\n"),
+        ],
     )?;
     let mut drawn = 0;
     for arrow in arrows {
@@ -206,37 +196,21 @@ fn put_key(
         }
         drawn = drawn.saturating_add(1);
         let from = LEFT + scaled(arrow.from, transactions);
-        let to = LEFT + scaled(arrow.to, transactions);
-        let (half, high) = ((from + to) / 2, y - 16);
-        put(
-            out,
-            format!(in alloc;
-                "<path d=\"M{from} {y}Q{half} {high} {to} {y}\" fill=\"none\" stroke=\"#c0504d\"/>\n"
-            )?,
-        )?;
+        put_arc(out, y, from, LEFT + scaled(arrow.to, transactions))?;
     }
-    out.extend_from_slice(b"</g>\n")?;
-    Ok(())
+    put(out, &[Piece::Text(b"</g>\n")])
 }
 
-/// Appends the keys with the most conflicts in a part.
+/// Appends the keys with the most conflicts in a part, below this many lines.
 fn put_keys(
     out: &mut Vec<u8>,
-    alloc: Global,
     above: usize,
     keys: &[Conflicts],
     arrows: &[Arrow],
     transactions: u32,
 ) -> Result<(), NoMemory> {
     for (index, key) in keys.iter().enumerate() {
-        put_key(
-            out,
-            alloc,
-            above.saturating_add(index),
-            key,
-            arrows,
-            transactions,
-        )?;
+        put_key(out, above.saturating_add(index), key, arrows, transactions)?;
     }
     Ok(())
 }
@@ -261,28 +235,36 @@ pub fn print_svg(
     };
     let below = shown.len() + 2;
     let height = line_at(below + keys.len());
-    let (count, drawn, heading) = (parts.len(), shown.len(), line_at(below - 1));
     let mut out = Vec::new(alloc);
     put(
         &mut out,
-        format!(in alloc;
-            "<svg xmlns=\"http://www.w3.org/2000/svg\" width=\"1200\" height=\"{height}\" font-family=\"sans-serif\" font-size=\"13\">\n<rect width=\"1200\" height=\"{height}\" fill=\"white\"/>\n"
-        )?,
+        &[
+            Piece::Decimal(
+                b"<svg xmlns=\"http://www.w3.org/2000/svg\" width=\"1200\" height=\"",
+                height,
+            ),
+            Piece::Decimal(
+                b"\" font-family=\"sans-serif\" font-size=\"13\">\n<rect width=\"1200\" height=\"",
+                height,
+            ),
+            Piece::Decimal(
+                b"\" fill=\"white\"/>\n<text x=\"12\" y=\"24\" font-size=\"16\">",
+                shown.len() as u64,
+            ),
+            Piece::Decimal(b" of ", parts.len() as u64),
+            Piece::Text(b" parts: transactions, and in red their longest chain</text>\n"),
+        ],
     )?;
+    put_bands(&mut out, shown)?;
     put(
         &mut out,
-        format!(in alloc;
-            "<text x=\"12\" y=\"24\" font-size=\"16\">{drawn} of {count} parts: transactions, and in red their longest chain</text>\n"
-        )?,
+        &[
+            Piece::Decimal(b"<text x=\"12\" y=\"", line_at(below - 1)),
+            Piece::Decimal(b"\" font-size=\"16\">Part ", u64::from(number)),
+            Piece::Text(b" by key: who wants whose version</text>\n"),
+        ],
     )?;
-    put_bands(&mut out, alloc, shown)?;
-    put(
-        &mut out,
-        format!(in alloc;
-            "<text x=\"12\" y=\"{heading}\" font-size=\"16\">Part {number} by key: who wants whose version</text>\n"
-        )?,
-    )?;
-    put_keys(&mut out, alloc, below, keys, arrows, transactions)?;
-    out.extend_from_slice(b"</svg>\n")?;
+    put_keys(&mut out, below, keys, arrows, transactions)?;
+    put(&mut out, &[Piece::Text(b"</svg>\n")])?;
     Ok(out)
 }

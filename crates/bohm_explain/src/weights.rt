@@ -29,7 +29,7 @@ fn terms_in(stmt: &StmtView<'_>) -> u32
 }
 
 /// The number of terms of a transaction's body, or 1 if it has none.
-fn weight(txn: &TxnView<'_>) -> u32
+pub fn weight(txn: &TxnView<'_>) -> u32
     requires { IsUsable txn.now }
     ensures weight { result ≡ weight txn.now }
     ensures light { result ≤ greatest_weight }
@@ -71,7 +71,7 @@ pub fn alike(alloc: Global, count: usize) -> Result<Vec<u32>, NoMemory>
 }
 
 /// The number of keys that a transaction declares.
-fn declared_by(txn: &TxnView<'_>) -> u32
+pub fn declared_by(txn: &TxnView<'_>) -> u32
     requires { IsUsable txn.now }
     ensures keys { result ≡ declared_by txn.now }
     ensures few { result ≤ 2 * most_keys }

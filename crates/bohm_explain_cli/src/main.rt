@@ -1,5 +1,5 @@
-//! The program: a log in a file or on standard input; on standard output, why it scales or doesn't,
-//! or why its transactions abort.
+//! The program: a log or a procedure in a file or on standard input; on standard output, why the log
+//! scales or doesn't, why its transactions abort, or what the procedure's calls cost.
 #![tactic(auto)]
 
 mod arguments;
@@ -23,7 +23,7 @@ fn asked(rt: &HostRuntime) -> Result<Arguments, ArgumentFault> {
     read_arguments(rt.alloc(), arguments.as_slice())
 }
 
-/// Explains the log of the file, or on standard input, as the arguments request.
+/// Explains the log or procedure of the file, or on standard input, as the arguments request.
 fn explain(rt: &HostRuntime, report: &mut Vec<u8>) -> Result<(), NoAnswer> {
     let (mut out, alloc) = (io::writer(rt), rt.alloc());
     let Arguments { file, wish } = match asked(rt) {

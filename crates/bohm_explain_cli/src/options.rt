@@ -16,7 +16,10 @@ Explains why the log of transactions in a file, or on standard input, scales or
 doesn't: the parts that bohm makes of it with the same options, whether several
 workers share each, how many of its transactions wait for one another, and how long
 their longest chain is, as a table with a line for each part, and which keys are
-the hottest. Nothing is run, but with --replies.";
+the hottest. Nothing is run, but with --replies.
+
+Of a procedure, whose first line is 'procedure 1' or 'procedure 2', what its calls
+cost.";
 
 const CC: &str = "\
 Planning workers of the run, 1 to 16 [default: 1]";
@@ -94,6 +97,16 @@ With --replies there is a line for each transaction that aborts: its reply, as b
 prints it, the statement that failed, and that statement's line in the log:
   3 abort need 1: need alice >= 30 (line 17)
 
+Of a procedure there is one line, of its own instance, and whether several workers
+run calls faster than one:
+  statements    the statements of a call's body, one for each value among them
+  terms         the terms in them, or 1
+  reads         the keys that a call declares to read; fewer, as with writes,
+                where two of its arguments are one key
+  writes        the keys that it declares to write
+  accesses      the accesses that are planned for it: reads and writes
+  run           how bohm runs a list of calls with the same options
+
 Examples:
   bohm-explain --replies bank.log
   bohm-explain --exec 4 --batch 1000 --top 20 bank.log
@@ -102,8 +115,9 @@ Examples:
 
 Exit status:
   0  the explanation was printed, or help or the version
-  1  the log was refused, or lacks the part to be drawn: standard error has
-     the fault's line, and for a bad log what bohm-check says
+  1  the text was refused, as procedures are with --replies and --svg, or the
+     log lacks the part to be drawn: standard error has the fault's line, and
+     for a bad text what bohm-check says
   2  the arguments were refused, or the file can't be opened: standard error
      says why";
 

@@ -1,1 +1,3 @@
 mod TextRefusals
+mod ReadFaults
+pub mod ForCallers

@@ -1,8 +1,10 @@
-//! Reads a log and reports its faults to people.
+//! Reads a log or a procedure, and reports its faults to people.
 #![tactic(auto)]
 
 mod checking;
+mod procedures;
 mod reading;
 mod refusal;
 
-pub use reading::{check_reported, read_reported};
+pub use procedures::procedure_reported;
+pub use reading::check_reported;

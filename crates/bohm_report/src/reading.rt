@@ -1,4 +1,4 @@
-//! Reads a log from a reader.
+//! The document of a log, or a run's refusal.
 
 ghost use Rattle.std.specs.Prelude.{◌≡◌, Err, OnOk, IfOk, IfErr};
 ghost use Rattle.bohm_answer.specs.declared.fault.RunFault.TheVariants as run;
@@ -8,16 +8,14 @@ ghost use Rattle.bohm_report.specs.Refused.{RunRefuses, fault_of};
 ghost use Rattle.bohm_text.specs.Print.{print_doc};
 ghost use Rattle.bohm_txn.specs.Faulty.{WellFormed};
 ghost use Rattle.bohm_types.specs.Sound.{IsDocument};
-ghost use Rattle.bohm_settings.specs.Given.{Given};
-ghost use Rattle.bohm_run.specs.Headline.{IsBeforeWriting, ReadsDocument, Refuses};
+ghost use Rattle.bohm_run.specs.Headline.{IsBeforeWriting};
 
 use crate::checking::check_text;
 use crate::refusal::Refusal;
-use bohm_answer::{RunFault, read_all};
+use bohm_answer::RunFault;
 use bohm_log::DrawnSeed;
 use bohm_txn::Checked;
 use std::alloc::Global;
-use std::io::Read;
 use std::random::RandomSource;
 
 /// The fault of a run on a text that is refused.
@@ -53,32 +51,5 @@ pub fn check_reported<T: RandomSource>(
     match check_text(alloc, DrawnSeed::draw(rt), text, report) {
         Ok(checked) => Ok(checked),
         Err(refusal) => Err(fault_of(refusal)),
-    }
-}
-
-/// Reads a log to the reader's end, and returns its text too. It refuses what a run refuses, with
-/// the same fault. Messages for people about why a text isn't a valid log are added to the report,
-/// as long as allocations succeed.
-///
-/// The time grows with the length of the text, and with the number k of its keys as k log k.
-pub fn read_reported<T: RandomSource, R: Read>(
-    rt: &T,
-    alloc: Global,
-    reader: &mut R,
-    report: &mut Vec<u8>,
-) -> Result<(Vec<u8>, Checked), RunFault>
-    ensures ok { IfOk result
-        (λ r. ReadsDocument (R.remaining reader.old) (R.remaining reader.new) r.1) }
-    ensures text { IfOk result (λ r. r.0.items ≡ print_doc r.1) }
-    ensures silent { OnOk result (report.new ≡ report.old) }
-    ensures err { IfErr result
-        (λ e. (given : Given)
-        → Refuses given (R.remaining reader.old) (R.remaining reader.new) None None e) }
-    ensures before { IfErr result IsBeforeWriting }
-{
-    let text = read_all(alloc, reader)?;
-    match check_reported(rt, alloc, text.as_slice(), report) {
-        Ok(checked) => Ok((text, checked)),
-        Err(fault) => Err(fault),
     }
 }

@@ -1,6 +1,7 @@
-use Rattle.std.proofs.Common.{◌≡◌, ◌++◌, drop}
-use Rattle.bohm_explain.specs.Json.{heats_from}
+use Rattle.std.proofs.Common.{◌≡◌, ◌∷◌, ◌++◌, take}
+use Rattle.std.specs.List.{flat_map}
+use Rattle.bohm_explain.specs.Json.{heat_json}
 use Rattle.bohm_explain.proofs.json.put_heats.Given as goal
 
-abbrev pub invariant-loop-index : goal.invariant-loop-index
-invariant-loop-index l = l.out.items ++ heats_from l.index (drop l.index l.heats) ≡ l.initial.out.items ++ heats_from 0 l.heats
+abbrev pub invariant-loop-heat : goal.invariant-loop-heat
+invariant-loop-heat l = l.out.items ≡ l.initial.out.items ++ flat_map (λ y. 44 ∷ heat_json y) (take l.heat-index l.others)

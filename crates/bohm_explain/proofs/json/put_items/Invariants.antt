@@ -1,6 +1,7 @@
-use Rattle.std.proofs.Common.{◌≡◌, ◌++◌, drop}
-use Rattle.bohm_explain.specs.Json.{parts_from}
+use Rattle.std.proofs.Common.{◌≡◌, ◌∷◌, ◌++◌, take}
+use Rattle.std.specs.List.{flat_map}
+use Rattle.bohm_explain.specs.Json.{part_json}
 use Rattle.bohm_explain.proofs.json.put_items.Given as goal
 
-abbrev pub invariant-loop-index : goal.invariant-loop-index
-invariant-loop-index l = l.out.items ++ parts_from l.index (drop l.index l.parts) ≡ l.initial.out.items ++ parts_from 0 l.parts
+abbrev pub invariant-loop-part : goal.invariant-loop-part
+invariant-loop-part l = l.out.items ≡ l.initial.out.items ++ flat_map (λ y. 44 ∷ part_json y) (take l.part-index l.others)

@@ -1,6 +1,0 @@
-use Rattle.std.proofs.Common.{◌≡◌, take}
-use Rattle.bohm_explain.specs.Verdict.{longest, leading}
-use Rattle.bohm_explain.proofs.verdict.leading.Given as goal
-
-abbrev pub invariant-loop-heat : goal.invariant-loop-heat
-invariant-loop-heat l = record { longest : l.longest ≡ longest (take l.heat-index l.ranked); first : l.leading ≡ leading (take l.heat-index l.ranked) }
