@@ -19,6 +19,6 @@ returns-in_err-printed-clause-err g c =
     let unread' : Option (List ℕ) = g.R.Read.remaining c.read_all.new.reader in
     let written : Option (List ℕ) = g.W.Write.contents c.args.writer.now in
     let read : ReadsAll unread unread' c.in_ok-text.text.items =
-        record { read = c.in_ok-text.ensures.bytes; at_end = c.in_ok-text.ensures.end; short = c.in_ok-text.ensures.short } in
+    record { read = c.in_ok-text.ensures.bytes; at_end = c.in_ok-text.ensures.end; short = c.in_ok-text.ensures.short } in
     rw (p.1, p.2) (before_writing c.args.wish unread unread' written written c.in_err-printed.field-0.0 c.in_err-printed.ensures.before
-        (c.in_err-printed.ensures.err unread unread' (subst (λ (bytes : List ℕ). ReadsAll unread unread' bytes) (sym c.as_slice.ensures.value) read)))
+    (c.in_err-printed.ensures.err unread unread' (subst (λ (bytes : List ℕ). ReadsAll unread unread' bytes) (sym c.as_slice.ensures.value) read)))
