@@ -1,3 +1,4 @@
+mod Deduped
 mod Since
 mod Changing
 mod Beginning

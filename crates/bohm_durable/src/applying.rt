@@ -31,8 +31,22 @@ pub(crate) fn is_rising(entries: &[(Key, Value)]) -> bool
     true
 }
 
-/// Adds the keys that the only transaction of a log declares to write.
-pub(crate) fn note_writes(changed: &mut Vec<Key>, log: &Checked) -> Result<(), NoMemory>
+/// Takes away keys that are there twice where there is no room for another one. There is room for as
+/// many keys again then, so that the time for a key is that of sorting it in a few times.
+fn make_room(changed: &mut Vec<Key>) -> Result<(), NoMemory>
+    ensures kept { (k : List ℕ) → is_among changed.old.items k ≡ true → is_among changed.new.items k ≡ true }
+{
+    if changed.len() < changed.capacity() {
+        return Ok(());
+    }
+    changed.sort_unstable();
+    changed.dedup();
+    changed.reserve(changed.len())?;
+    Ok(())
+}
+
+/// Adds the keys that the only transaction of a log declares to write, behind those that are there.
+fn push_writes(changed: &mut Vec<Key>, log: &Checked) -> Result<(), NoMemory>
     requires { length log.now.log ≡ 1 }
     ensures kept { (k : List ℕ) → is_among changed.old.items k ≡ true → is_among changed.new.items k ≡ true }
     ensures noted { OnOk result ((t : Txn) → log.now.log ≡ t ∷ [] → (k : List ℕ) → is_among t.writes k ≡ true
@@ -43,6 +57,18 @@ pub(crate) fn note_writes(changed: &mut Vec<Key>, log: &Checked) -> Result<(), N
         changed.push(*writes.key(place))?;
     }
     Ok(())
+}
+
+/// Adds the keys that the only transaction of a log declares to write. A key that changes again and
+/// again takes room a few times.
+pub(crate) fn note_writes(changed: &mut Vec<Key>, log: &Checked) -> Result<(), NoMemory>
+    requires { length log.now.log ≡ 1 }
+    ensures kept { (k : List ℕ) → is_among changed.old.items k ≡ true → is_among changed.new.items k ≡ true }
+    ensures noted { OnOk result ((t : Txn) → log.now.log ≡ t ∷ [] → (k : List ℕ) → is_among t.writes k ≡ true
+        → is_among changed.new.items k ≡ true) }
+{
+    make_room(changed)?;
+    push_writes(changed, log)
 }
 
 /// Runs the only transaction of a log after the top.

@@ -1,5 +1,5 @@
 use Rattle.std.proofs.Common.{◌≡◌, ◌++◌, take}
-use Rattle.bohm_durable.proofs.applying.note_writes.Given as goal
+use Rattle.bohm_durable.proofs.applying.push_writes.Given as goal
 
 abbrev pub invariant-keys : goal.invariant-keys
 invariant-keys l = l.changed.items ≡ l.fn.changed.items ++ take l.place l.writes

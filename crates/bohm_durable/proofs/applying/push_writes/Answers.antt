@@ -1,7 +1,7 @@
 use Rattle.std.proofs.Common.{◌≡◌, ◌+◌, ◌∷◌, [], ◌++◌, List, ℕ, take, ap, sym, ◌∙◌, append_assoc, arith}
 use Rattle.std.proofs.lemmas.List.{take_more}
 use Rattle.std.proofs.lemmas.Option.{get_or_from_slice_get}
-use Rattle.bohm_durable.proofs.applying.note_writes.Goals as goal
+use Rattle.bohm_durable.proofs.applying.push_writes.Goals as goal
 
 pub keys-preserved : goal.keys-preserved
 keys-preserved c =
