@@ -184,7 +184,7 @@ class Etcd:
             raise Rewound(f"the cluster is {self.cluster:x}, and the log was read from {position.cluster:x}")
         if told.revision < position.revision:
             raise Rewound(f"etcd's revision is {told.revision}, and {position.revision} was read from it")
-        if told.fence.revision > position.revision:
+        if told.fence > (position.revision, position.entries):
             raise Behind(f"entries up to revision {told.fence.revision} are deleted, and {position.revision} was reached")
         if not has_mark:
             raise Rewound(f"etcd's revision {position.revision} isn't the one that was read from it")

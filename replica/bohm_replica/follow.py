@@ -17,6 +17,9 @@ PAGE = 1 << 22
 # Seconds between two tries.
 PAUSE = 0.1
 
+# By what entries are ordered: keys that somebody put together have one revision.
+Order = Tuple[int, bytes]
+
 
 class News(NamedTuple):
     """Entries by rising revisions, and what else changed under the prefix."""
@@ -26,13 +29,13 @@ class News(NamedTuple):
 
 
 class Stream:
-    """The entries of one sequencer behind a number and a revision, as of a later one, read by pages."""
+    """The entries of one sequencer behind a number and a place of the log, as of a later revision, read by pages."""
 
-    def __init__(self, etcd: Etcd, name: str, number: int, after: int, revision: int) -> None:
+    def __init__(self, etcd: Etcd, name: str, number: int, after: Order, revision: int) -> None:
         self.etcd, self.number, self.revision = etcd, number, revision
         self.start, self.end = etcd.keys.entry(name, number + 1), end_of(etcd.keys.sequencer(name))
         self.waiting: List[Entry] = []
-        # The revision of the last entry, or that up to which the log has run: what was put before it has been passed over.
+        # The place of the last entry, or that up to which the log has run: what was put before it has been passed over.
         self.limit, self.is_over, self.has_gap, self.last = 1, False, False, after
 
     async def head(self) -> Optional[Entry]:
@@ -58,16 +61,20 @@ class Stream:
             self.has_gap = True
             if self.number:
                 raise Behind(f"{kv['key']!r} is there, and what is to stand before it isn't")
-        elif kv["create_revision"] > self.last:
+        elif (kv["create_revision"], kv["key"]) > self.last:
             entry = entry_of(self.etcd.keys, kv if kv.get("version") == 1 else await first_version(self.etcd, kv))
             if entry:
                 self.waiting.append(entry)
-                self.last, self.number = entry.revision, named[1]
+                self.last, self.number = order_of(entry), named[1]
 
 
-def order_of(entry: Entry) -> Tuple[int, bytes]:
-    """By what entries are ordered: keys that were put together have one revision."""
+def order_of(entry: Entry) -> Order:
     return entry.revision, entry.key
+
+
+def order_at(position: Position) -> Order:
+    """Where the last entry is that was run. Others of its revision may be behind it."""
+    return position.revision, position.key.encode("latin-1")
 
 
 async def first_version(etcd: Etcd, kv: Message) -> Message:
@@ -95,8 +102,10 @@ class Follower:
         while True:
             try:
                 told = await self.etcd.confirm(self.position())
-                first = self.position().revision + 1
-                self.missing = max(0, told.revision + 1 - first)
+                after = order_at(self.position())
+                # The last revision too: a replica that ended within it has run a part of it.
+                first = max(1, after[0])
+                self.missing = max(0, told.revision - after[0])
                 if self.missing > near:
                     if told.last >= first:
                         async for entries in self.pages(told.revision):
@@ -106,7 +115,7 @@ class Follower:
                     held = await self.etcd.held(self.etcd.keys.digests)
                     yield News([], [{"kv": {"key": key, "value": value}} for key, value in held.items()])
                 near = NEAR
-                async for news in self.watched(first):
+                async for news in self.watched(first, after):
                     yield news
             except Compacted:
                 # A watch can't begin there; the keys are still there, or a fence says that they aren't.
@@ -118,15 +127,15 @@ class Follower:
             self.reconnects += 1
             await asyncio.sleep(PAUSE)
 
-    async def watched(self, first: int) -> AsyncIterator[News]:
-        """What a watch sends, until it is silent though there is something."""
+    async def watched(self, first: int, after: Order) -> AsyncIterator[News]:
+        """What a watch sends from a revision on, of entries those behind a place, until it is silent though there is something."""
         stream = self.etcd.watch(first, self.waits_for)
         quiet = time.monotonic()
         try:
             async for events in stream:
                 if events is not None:
                     self.missing, quiet = 0, time.monotonic()
-                    yield self.sorted(events, first)
+                    yield self.sorted(events, max(after, (first, b"")))
                 elif (await self.etcd.confirm(self.position())).last > self.position().revision:
                     if time.monotonic() - quiet > 2 * SILENCE:
                         raise Fault(0, "the watch is silent")
@@ -134,13 +143,13 @@ class Follower:
             await stream.aclose()  # type: ignore[attr-defined]
         raise Fault(0, "the watch ended")
 
-    def sorted(self, events: List[Message], first: int) -> News:
+    def sorted(self, events: List[Message], after: Order) -> News:
         entries, others = [], []
         for event in events:
             kv = event["kv"]
             entry = None if event.get("type") else entry_of(self.etcd.keys, kv)
             # A member that lags may send what was before the revision that was asked for.
-            if entry and entry.revision >= first:
+            if entry and order_of(entry) > after:
                 entries.append(entry)
             elif not entry and kv["key"] != self.etcd.keys.last:
                 others.append(event)
@@ -148,8 +157,9 @@ class Follower:
         return News(entries, others)
 
     async def pages(self, revision: int) -> AsyncIterator[List[Entry]]:
-        """The entries behind the position, as of a revision, by their own revisions."""
-        numbers, after = self.numbers(), self.position().revision
+        """The entries behind the position, as of a revision, by their own revisions. Those of one revision come together."""
+        numbers, after = self.numbers(), order_at(self.position())
+        held: List[Entry] = []
         streams = [Stream(self.etcd, name, numbers.get(name, 0), after, revision) for name in await self.names(revision)]
         heads = [(order_of(head), stream) for stream in streams if (head := await stream.head())]
         while heads:
@@ -158,9 +168,12 @@ class Follower:
             until = heads[1][0] if len(heads) > 1 else (revision + 1, b"")
             taken = [entry for entry in stream.waiting if order_of(entry) < until]
             del stream.waiting[:len(taken)]
-            yield taken
+            held += taken
+            yield [entry for entry in held if entry.revision < held[-1].revision]
+            held = [entry for entry in held if entry.revision == held[-1].revision]
             head = await stream.head()
             heads[:1] = [(order_of(head), stream)] if head else []
+        yield held
 
     async def names(self, revision: int) -> List[str]:
         """The sequencers that have entries."""

@@ -389,11 +389,11 @@ class Replica:
 
 
 def sliced(entries: Sequence[Entry]) -> List[List[Entry]]:
-    """Entries in parts of about a size."""
+    """Entries in parts of about a size, those of one revision in one."""
     parts: List[List[Entry]] = []
-    size = SLICE
+    size = 0
     for entry in entries:
-        if size >= SLICE:
+        if not parts or size >= SLICE and entry.revision > parts[-1][-1].revision:
             parts.append([])
             size = 0
         parts[-1].append(entry)
