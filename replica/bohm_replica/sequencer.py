@@ -13,8 +13,11 @@ from .position import Position
 # The most texts and bytes of an entry of the log, and of all that wait for an answer.
 MOST, LARGEST = batches.MOST, 1 << 18
 MOST_WAITING, LARGEST_WAITING = 20_000, 1 << 24
-# Seconds for which what comes together is waited for.
-GATHER = 0.002
+# Seconds for which what is about to come is waited for, and texts of which no more are waited for, since an entry's own cost is then a
+# small part of theirs.
+GATHER, ENOUGH = 0.002, 512
+# The part of its peak that the number of texts under way has to reach, and what the peak keeps from one entry to the next.
+MOSTLY, KEPT = 0.9, 0.8
 
 
 class Busy(Exception):
@@ -42,6 +45,8 @@ class Sequencer:
         self.waiting: Deque[Sent] = collections.deque()
         self.put: Dict[int, List[Sent]] = {}
         self.some = asyncio.Event()
+        # Texts that haven't been put; so many of them that `enough` is set; and how many were under way at most, lately.
+        self.queued, self.expected, self.enough, self.peak = 0, 0.0, asyncio.Event(), 0.0
         self.count = self.size = 0
         self.begin()
 
@@ -58,8 +63,11 @@ class Sequencer:
             raise Busy(f"{self.count} entries wait")
         self.count, self.size = count, size
         self.waiting.append(sent)
+        self.queued += len(sent.texts)
         if len(self.waiting) == 1:
             self.some.set()
+        if self.queued >= self.expected:
+            self.enough.set()
 
     def taken(self) -> List[Sent]:
         """What goes into the next entry."""
@@ -69,25 +77,34 @@ class Sequencer:
             group.append(self.waiting.popleft())
             count += len(group[-1].texts)
             size += group[-1].size
+        self.queued -= count
         return group
 
     async def run(self) -> None:
         """Puts what comes, without end. Raises Rewound, or Behind."""
-        begun, size = 0.0, 1
+        begun = 0.0
         while True:
             if not self.waiting:
                 self.some.clear()
                 await self.some.wait()
             # One that comes alone is put at once, and what comes while it is under way goes together. Where several came
             # together before, the others are about to come again, now that they were answered.
-            if size > 1 or len(self.waiting) > 1:
-                left = max(begun + self.linger - time.monotonic(), GATHER if len(self.waiting) < size else 0.0)
-                if left > 0:
-                    await asyncio.sleep(left)
+            self.peak = max(self.count, KEPT * self.peak)
+            if self.count > 1 or self.peak > 1.5:
+                await self.gather(begun + self.linger - time.monotonic())
             begun = time.monotonic()
-            group = self.taken()
-            size = len(group)
-            await self.put_group(group)
+            await self.put_group(self.taken())
+
+    async def gather(self, left: float) -> None:
+        """Waits so many seconds, and then, for some milliseconds, until most have come of those that come again."""
+        if left > 0:
+            await asyncio.sleep(left)
+        self.expected = min(MOSTLY * self.peak, ENOUGH)
+        if self.queued < self.expected:
+            self.enough.clear()
+            timer = asyncio.get_running_loop().call_later(GATHER, self.enough.set)
+            await self.enough.wait()
+            timer.cancel()
 
     async def put_group(self, group: List[Sent]) -> None:
         value = batches.written([text for sent in group for text in sent.texts], self.position().rules)
@@ -129,6 +146,7 @@ class Sequencer:
         ended = [*self.waiting, *(sent for group in self.put.values() for sent in group)]
         self.waiting.clear()
         self.put.clear()
+        self.queued = 0
         self.end(ended, fault)
 
     def forget(self, group: Sequence[Sent]) -> None:
