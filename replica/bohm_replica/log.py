@@ -55,10 +55,12 @@ class Log:
         is_there = os.path.exists(path)
         try:
             self.ledger = bohm.Ledger(path, None if is_there else edition, checkpoint_every=sys.maxsize, library=library,
-                                      synchronous=False)
+                                      synchronous=False, beside=self.write)
         except (bohm.DamagedError, bohm.NoLedgerError, bohm.BohmError, ValueError, IndexError, KeyError) as fault:
             raise Damaged(f"{path}: {fault}") from fault
         self.every, self.floor = checkpoint_every, 0
+        # The numbers that the file doesn't have yet.
+        self.moved: Dict[str, int] = {}
         try:
             if self.ledger.edition != edition:
                 raise OtherEdition(f"{path} has edition {self.ledger.edition}, and the replica was given {edition}")
@@ -119,28 +121,40 @@ class Log:
         return ran
 
     def commit(self, group: Sequence[Planned], numbers: Dict[str, int]) -> List[Ran]:
-        """Runs and stores entries with the position behind them."""
+        """Runs entries, which are stored later, with the position behind them."""
         texts = [text for planned in group for text in planned.texts]
-        position = places.moved(self.position, [planned.entry for planned in group])._replace(rules=group[-1].rules)
-        defines = any(b"define " in planned.entry.value for planned in group)
         ran: List[Ran] = []
 
-        def write(connection: sqlite3.Connection, answers: Sequence[Answer], requests: Sequence[Tuple[str, str]]) -> None:
-            nonlocal position
+        def note(answers: Sequence[Answer], requests: Sequence[Tuple[str, str]]) -> None:
             # Where each text was accepted with an id, its line is made already.
             lines = [line for _, line in requests] if len(requests) == len(answers) else bohm.replies.lines_of(answers)
             ran.extend(shared(group, lines))
-            position = position._replace(answers=places.chained_answers(position.answers, (each.answers for each in ran)),
-                                         requests=places.summed(position.requests, requests))
-            if defines:
-                position = position._replace(procedures=places.hash_of(self.ledger.procedures))
-            places.write(connection, position, numbers)
+            self.move(group, numbers, ran, requests)
 
-        self.ledger.append_beside(texts, write)
-        self.position = position
-        self.numbers.update(numbers)
+        self.ledger.hold(texts, note)
         self.note_place()
         return ran
+
+    def move(self, group: Sequence[Planned], numbers: Dict[str, int], ran: Sequence[Ran], requests: Sequence[Tuple[str, str]]) -> None:
+        """Moves the position behind entries that have run."""
+        here = places.moved(self.position, [planned.entry for planned in group])
+        here = here._replace(rules=group[-1].rules, requests=places.summed(here.requests, requests),
+                             answers=places.chained_answers(here.answers, (each.answers for each in ran)))
+        if any(b"define " in planned.entry.value for planned in group):
+            here = here._replace(procedures=places.hash_of(self.ledger.procedures))
+        self.position = here
+        self.numbers.update(numbers)
+        self.moved.update(numbers)
+
+    def write(self, connection: sqlite3.Connection) -> None:
+        """Writes the position beside what is stored."""
+        places.write(connection, self.position, self.moved)
+        self.moved = {}
+
+    def store(self) -> None:
+        """Stores what has run."""
+        if self.moved:
+            self.ledger.store()
 
     def note_place(self) -> None:
         """Notes the digests, where the position is at a fixed place."""

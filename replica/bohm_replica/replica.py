@@ -28,6 +28,8 @@ from .ways import Tls
 
 # Seconds from one look at etcd to the next, that it counts as heard of, and from one registration to the next.
 LOOK, LATELY, REGISTER = 1.0, 10.0, 5.0
+# Seconds until what has run is stored, together with what runs meanwhile.
+STORE = 0.02
 # Bytes of entries that are run without leaving the loop, and that are run at once.
 INLINE, SLICE = 1 << 15, 1 << 20
 # Seconds within which a second divergence ends a replica.
@@ -73,6 +75,8 @@ class Replica:
         # Why it answers less than it should; and whether it answers nothing.
         self.trouble: Optional[str] = "starting"
         self.is_stopped = self.takes = False
+        # Whether the other thread runs entries; and that some have run.
+        self.is_running, self.some = False, asyncio.Event()
         self.told: Optional[Told] = None
         self.told_at = 0.0
         self.waiters: List[Waiter] = []
@@ -256,7 +260,7 @@ class Replica:
         self.sequencer = Sequencer(self.etcd, self.options.name, self.position, self.options.get("linger") / 1000)
         self.follower = Follower(self.etcd, self.position, lambda: log.numbers, self.waits_for)
         parts: List[Awaitable[None]] = [self.take_all(log), self.look(), self.sequencer.run(), self.digests.run(), self.duty.run(),
-                                        self.register(log)]
+                                        self.register(log), self.keep(log)]
         tasks = {asyncio.ensure_future(part) for part in parts}
         try:
             done, _ = await asyncio.wait(tasks, return_when=asyncio.FIRST_EXCEPTION)
@@ -287,18 +291,36 @@ class Replica:
             if sum(len(entry.value) for entry in part) < INLINE:
                 ran = log.apply(part)
             else:
-                ran = await self.work(log.apply, part)
+                ran = await self.run_beside(log.apply, part)
             self.figures.apply.add(time.monotonic() - begun)
             self.after(log, ran)
             if log.is_due():
-                await self.work(log.checkpoint)
+                await self.run_beside(log.checkpoint)
         if self.digests:
             for event in news.others:
                 self.digests.note(event)
 
+    async def run_beside(self, act: Callable[..., Kind], *given: Any) -> Kind:
+        """Changes the log in the other thread."""
+        self.is_running = True
+        try:
+            return await self.work(act, *given)
+        finally:
+            self.is_running = False
+
+    async def keep(self, log: Log) -> None:
+        """Stores what has run, some milliseconds later. What isn't stored comes again from etcd."""
+        while True:
+            await self.some.wait()
+            await asyncio.sleep(STORE)
+            if not self.is_running:
+                self.some.clear()
+                log.store()
+
     def after(self, log: Log, ran: Sequence[Ran]) -> None:
         """Tells those who wait that entries have run."""
         assert self.sequencer and self.digests and self.duty
+        self.some.set()
         self.figures.note(ran)
         for each in ran:
             self.sequencer.ran(each.entry.name, each.entry.number, each)

@@ -1,10 +1,11 @@
 """A durable ledger: entries in a file, and the machine that has run them."""
 import contextlib
 import os
+import sqlite3
 import textwrap
 import threading
 from types import TracebackType
-from typing import Any, Dict, Iterable, List, NoReturn, Optional, Sequence, Tuple, Type, Union, cast
+from typing import Any, Callable, Dict, Iterable, Iterator, List, NoReturn, Optional, Sequence, Tuple, Type, Union, cast
 
 from . import ledger_commit, ledger_file, ledger_recovery, ledger_state
 from .entries import ID, KEY, Refused, text_of
@@ -137,12 +138,16 @@ class Ledger:
     The file is a SQLite database (`docs/ledger.md`), which other programs may read meanwhile."""
 
     def __init__(self, path: "Union[str, os.PathLike[str]]", edition: Optional[int] = None, *,
-                 checkpoint_every: int = 1_000_000, library: Optional[Library] = None, synchronous: bool = True) -> None:
+                 checkpoint_every: int = 1_000_000, library: Optional[Library] = None, synchronous: bool = True,
+                 beside: Optional[Callable[[sqlite3.Connection], None]] = None) -> None:
         """Opens a ledger; a new one has edition 2 if `edition` isn't given. A checkpoint is made behind so many transactions,
         and by `close`. If not `synchronous`, what a call returns is durable once `sync` returns, and a crash of the machine
-        may take the last commits away: for entries that another log holds, and that can be run again."""
+        may take the last commits away: for entries that another log holds, and that can be run again. `beside` writes into
+        tables of the caller's own, by the transaction that stores what was held (`hold`)."""
         self._path, self._edition, self._every, self._library = os.fspath(path), edition, checkpoint_every, library
-        self._synchronous = synchronous
+        self._synchronous, self._beside = synchronous, beside
+        # Whether something that was held couldn't be stored.
+        self._is_lost = False
         self._own, self._turns, self._is_open = threading.local(), Turns(self._store), True
         self._file: Optional[LedgerFile] = None
         self._state: Optional[State] = None
@@ -153,10 +158,13 @@ class Ledger:
         ahead of what was answered."""
         if not self._is_open:
             raise ClosedError("the ledger is closed")
+        if self._is_lost:
+            raise LedgerError(f"{self._path}: what was held isn't stored: the ledger has to be opened again")
         if self._file is None or self._state is None:
             if self._file:
                 self._file.close()
             self._file = LedgerFile(self._path, self._edition, self._synchronous)
+            self._file.beside = self._beside
             try:
                 self._state = ledger_recovery.recovered(self._file, self._library)
             except BaseException:
@@ -164,6 +172,22 @@ class Ledger:
                 raise
             self._show(self._state)
         return self._file, self._state
+
+    def _settled(self) -> Tuple[LedgerFile, State]:
+        """The same, with all stored that was held."""
+        file, state = self._opened()
+        with self._losing():
+            file.store()
+        return file, state
+
+    @contextlib.contextmanager
+    def _losing(self) -> Iterator[None]:
+        """Takes nothing more after a failure: what was held is known to its owner, and not to the file."""
+        try:
+            yield
+        except BaseException:
+            self._is_lost = True
+            raise
 
     def _show(self, state: State) -> None:
         """Lets readers see all that has run."""
@@ -180,7 +204,7 @@ class Ledger:
 
     def _store(self, texts: Sequence[str], beside: Optional[Beside] = None) -> Sequence[Answer]:
         """Runs and stores a commit."""
-        file, state = self._opened()
+        file, state = self._settled()
         try:
             answers = ledger_commit.commit(file, state, texts, beside)
         except BaseException:
@@ -213,22 +237,42 @@ class Ledger:
         """Runs and stores at most 4,096 entries as one commit, and in its transaction what `write` writes into tables of the
         caller's own: it is given the connection, the answers, and the ids that are stored, with their answers. So whoever
         reads entries from another log stores with them how far it has read."""
-        texts = [text if isinstance(text, str) and text.isascii() and text.endswith("\n") else text_of(text) for text in entries]
-        if len(texts) > MOST:
-            raise ValueError(f"a commit has at most {MOST} entries")
+        texts = texts_of_commit(entries)
         with self._turns.alone():
             return self._store(texts, write)
 
-    def answer_to(self, id: str) -> Optional[Answer]:
-        """The answer to the entry with an id; none if no entry that is stored has it."""
+    def hold(self, entries: Iterable[Text], note: Callable[[Sequence[Answer], Sequence[Tuple[str, str]]], None]) -> Sequence[Answer]:
+        """Runs at most 4,096 entries as one commit, which is stored later, together with others and with what `beside` writes: by
+        `store`, or by a call that needs the file. `note` is told the answers, and the accepted ids with theirs, before that can
+        happen. For entries that another log holds: a crash takes away what is held. After an error the ledger has to be opened
+        again."""
+        texts = texts_of_commit(entries)
         with self._turns.alone():
-            found = self._opened()[0].requests([id])
+            file, state = self._opened()
+            with self._losing():
+                file.make_room(len(texts))
+                first = state.top + 1
+                ran = ledger_commit.run(file, state, texts)
+                note(ran.answers, ran.requests)
+                file.hold(first, ran.text, ran.requests, len(texts))
+            self._show(state)
+        return ran.answers
+
+    def store(self) -> None:
+        """Stores what is held."""
+        with self._turns.alone():
+            self._settled()
+
+    def answer_to(self, id: str) -> Optional[Answer]:
+        """The answer to the entry with an id; none if no entry has it."""
+        with self._turns.alone():
+            found = self._settled()[0].requests([id])
         return answer_of(found[id][1]) if id in found else None
 
     def sync(self) -> None:
         """Makes durable what was stored before, if the ledger isn't `synchronous`. Other threads go on meanwhile."""
         with self._turns.alone():
-            file = self._opened()[0]
+            file = self._settled()[0]
             log = file.log_handle()
         try:
             with ledger_file.told(self._path):
@@ -281,11 +325,10 @@ class Ledger:
         """Stores the keys that changed since the last checkpoint, and returns the sequence number of the last transaction.
         The past before it can't be read any more, and opening runs only what is behind it."""
         with self._turns.alone():
-            self._opened()
             return self._checkpoint()
 
     def _checkpoint(self) -> int:
-        file, state = self._opened()
+        file, state = self._settled()
         if state.top == file.checkpointed:
             return state.top
         try:
@@ -306,7 +349,7 @@ class Ledger:
         """Deletes the archives whose transactions all have numbers up to this one, and up to the checkpoint. Logs that begin
         at or before the checkpoint can't be had any more. Nothing else that was stored is ever deleted."""
         with self._turns.alone():
-            self._opened()[0].forget(sequence)
+            self._settled()[0].forget(sequence)
 
     # Reading.
 
@@ -352,6 +395,8 @@ class Ledger:
             raise ValueError(f"there is no range from {first} to {last}")
         if last > self.top:
             raise FutureError()
+        if self._file and self._file.held:
+            self.store()
         with ledger_file.snapshot(self._path) as tables:
             return ledger_recovery.log_of(tables, first, last, self._library)
 
@@ -383,6 +428,14 @@ class Ledger:
 
     def __exit__(self, *what: object) -> None:
         self.close()
+
+
+def texts_of_commit(entries: Iterable[Text]) -> List[str]:
+    """The texts of a commit's entries. Raises ValueError where they are too many."""
+    texts = [text if isinstance(text, str) and text.isascii() and text.endswith("\n") else text_of(text) for text in entries]
+    if len(texts) > MOST:
+        raise ValueError(f"a commit has at most {MOST} entries")
+    return texts
 
 
 def headed(word: str, request: Optional[str]) -> List[str]:

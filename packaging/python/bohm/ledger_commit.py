@@ -21,23 +21,35 @@ class First(NamedTuple):
     answer: Answer
 
 
+class Ran(NamedTuple):
+    """What a commit has run: the answers, the accepted entries, and their ids with the answers."""
+
+    answers: Sequence[Answer]
+    text: str
+    requests: Sequence[Tuple[str, str]]
+
+
 def commit(file: LedgerFile, state: State, texts: Sequence[str], beside: Optional[Beside] = None) -> Sequence[Answer]:
     """Runs entries and stores them; their answers are those of the file from then on. After an exception the state may be
     ahead of the file."""
     first = state.top + 1
+    ran = run(file, state, texts)
+    if ran.text or beside:
+        file.commit(first, ran.text, ran.requests, bound(beside, ran.answers, ran.requests))
+    return ran.answers
+
+
+def run(file: LedgerFile, state: State, texts: Sequence[str]) -> Ran:
+    """Runs entries, which aren't stored."""
     alike = state.alike(texts) if len(texts) > 1 else None
     ids = alike.ids if alike else []
     if alike and are_new(file, ids):
         replies = state.run_alike(alike)
         requests = [(row[0], line) for row, line in zip(alike.rows, lines_of(replies)) if row[0]] if ids else []
-        file.commit(first, "".join(texts), requests, bound(beside, replies, requests))
-        return replies
+        return Ran(replies, "".join(texts), requests)
     under_way = Commit(file, state, texts)
     under_way.take_all()
-    if under_way.accepted or beside:
-        more = bound(beside, under_way.answers, under_way.requests)
-        file.commit(first, "".join(under_way.accepted), under_way.requests, more)
-    return under_way.answers
+    return Ran(under_way.answers, "".join(under_way.accepted), under_way.requests)
 
 
 def bound(beside: Optional[Beside], answers: Sequence[Answer],

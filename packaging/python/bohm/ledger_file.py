@@ -25,6 +25,8 @@ DEFINES = "(substr(entries, 1, 7) = 'define ' OR instr(entries, char(10) || 'def
 PATIENCE = 5.0
 # Pages that the log of a file that isn't synchronous has at most, unless a commit or a reader takes more.
 LOG_PAGES = 1 << 14
+# The most entries of a batch of commits that are stored together.
+MOST = 4096
 # Batches that are kept in memory, for ids that are sent again; and ids, twice as many at most and those of a commit.
 MOST_FOUND, MOST_RECENT = 64, 1 << 15
 
@@ -54,6 +56,14 @@ class StoredBatch(NamedTuple):
     place: int
     first: int
     entries: str
+
+
+class Held(NamedTuple):
+    """A commit that isn't stored yet: the number of its first transaction, its accepted entries, and their ids with the answers."""
+
+    first: int
+    text: str
+    requests: Sequence[Tuple[str, str]]
 
 
 @contextlib.contextmanager
@@ -196,6 +206,10 @@ class LedgerFile(LedgerTables):
         self.synchronous = synchronous
         # Batches that were looked up, by place.
         self.found: Dict[int, Optional[str]] = {}
+        # Commits that are stored later, how many entries they were given, and what is written beside them.
+        self.held: List[Held] = []
+        self.held_count = 0
+        self.beside: Optional[Callable[[sqlite3.Connection], None]] = None
         is_new = not os.path.exists(path)
         with told(path):
             connection = sqlite3.connect(path, timeout=1.0, isolation_level=None, check_same_thread=False)
@@ -291,6 +305,30 @@ class LedgerFile(LedgerTables):
                more: Optional[Callable[[sqlite3.Connection], None]] = None) -> None:
         """Stores a batch, unless it is empty, with the ids of its entries and their answers, and what `more` writes. Where
         another program has stored a batch in its place, nothing is stored."""
+        self.write(first, text, requests, more)
+        self.recent.add(name for name, _ in requests)
+
+    def hold(self, first: int, text: str, requests: Sequence[Tuple[str, str]], count: int) -> None:
+        """Has a commit of so many entries, for which there is room, stored later."""
+        self.held.append(Held(first, text, requests))
+        self.held_count += count
+        self.recent.add(name for name, _ in requests)
+
+    def make_room(self, count: int) -> None:
+        """Stores what is held where so many entries more would be too many for a batch."""
+        if self.held_count + count > MOST:
+            self.store()
+
+    def store(self) -> None:
+        """Stores the commits that are held as one batch, and in its transaction what is written beside them."""
+        if self.held:
+            requests = [request for held in self.held for request in held.requests]
+            self.write(self.held[0].first, "".join([held.text for held in self.held]), requests, self.beside)
+            self.held, self.held_count = [], 0
+
+    def write(self, first: int, text: str, requests: Sequence[Tuple[str, str]],
+              more: Optional[Callable[[sqlite3.Connection], None]]) -> None:
+        """Writes a batch by one transaction."""
         place = self.place + 1 if text else self.place
         with told(self.path), self.transaction():
             if text:
@@ -302,7 +340,6 @@ class LedgerFile(LedgerTables):
                 more(self.connection)
         self.place = place
         self.archivable += len(text)
-        self.recent.add(name for name, _ in requests)
 
     def checkpoint(self, sequence: int, cells: Iterable[Tuple[str, Optional[int]]]) -> None:
         """Stores the cells of keys that may have changed; they are those after the transaction with this number."""
@@ -330,6 +367,7 @@ class LedgerFile(LedgerTables):
         """The places and answers of the ids that are known."""
         if self.recent.are_new(ids):
             return {}
+        self.store()
         if len(ids) == 1:
             rows = self.connection.execute("SELECT id, place, answer FROM request WHERE id = ?", (ids[0],))
         else:
