@@ -2,8 +2,10 @@
 entered again says so and does nothing; exceptions leave it usable, with all replies; other threads read between batches."""
 import copy
 import gc
+import hashlib
 import os
 import pickle
+import random
 import signal
 import struct
 import sys
@@ -781,6 +783,86 @@ class Stores(unittest.TestCase):
         self.assertEqual(machine.counts().names, 2)
         machine.compact()
         self.assertEqual(machine.counts().names, 1)
+
+
+class Reading(unittest.TestCase):
+    """What a ledger leaves to the extension: calls that are read from lines, and sums of hashes."""
+
+    WORDS = ["a", "b_1", "abcdefghijklmnopqrstuvwxyz012345", "abcdefghijklmnopqrstuvwxyz0123456", "A", "1a", "", "a-b", "\xe9", "a\t"]
+    NUMBERS = ["0", "7", "-7", "999999999999999999", "-99999999999999999", "1000000000000000000", "-999999999999999999", "00", "-0", "01", "-",
+               "", "+1", "1 ", "7\xe9", "0x1"]
+    IDS = ["", "", "#r1 ", "#" + "!" * 64 + " ", "#" + "~" * 65 + " ", "# ", "#a", "##x ", "#\xe9 ", " "]
+    HEADS = ["call ", "call ", "call ", "call  ", "cal ", "Call ", "", "call\t"]
+    ENDS = ["\n", "\n", "\n", "\n", " \n", "\r\n", "\n\n", ""]
+
+    def drawn_line(self, rng, odd):
+        """A line that is a call of the procedure `move`, but for one part if it is to be odd."""
+        parts = [["call "], ["", "#r1 ", "#!~ "], ["move"], [" "], self.WORDS[:3], [" "], self.WORDS[:3], [" "], self.NUMBERS[:5], [" "], ["5"], ["\n"]]
+        others = [self.HEADS, self.IDS, ["move", "mov", "moved", "MOVE"], [" ", "  ", ""], self.WORDS, [" ", "\t"], self.WORDS, [" ", "\n"],
+                  self.NUMBERS, [" ", ""], self.NUMBERS, self.ENDS]
+        at = rng.randrange(len(parts)) if odd else None
+        return "".join(rng.choice(others[place] if place == at else part) for place, part in enumerate(parts))
+
+    @unittest.skipUnless(bohm.NATIVE, "ctypes reads no lines")
+    def test_lines(self):
+        """The extension takes the lines that the package's own rule takes, and reads them alike."""
+        rng, taken = random.Random(3), 0
+        text = "procedure 2\nkey from\nkey to\nvalue a\nvalue b\nreads from to\nwrites from to\nset from = 0\nset to = $a + $b\nshow to\nend\n"
+        with opened("a 0\n") as machine, opened("a 0\n") as other:
+            move, same, form = machine.prepare(text), other.prepare(text), bohm.entries.Form("move", text)
+            for _ in range(1500):
+                lines = [self.drawn_line(rng, rng.random() < 0.2) for _ in range(rng.randrange(1, 5))]
+                rows = form.rows(lines)
+                read = move._read("move", "".join(lines), len(lines))
+                self.assertEqual(read is None, not rows, lines)
+                if rows:
+                    taken += 1
+                    self.assertEqual(read.ids, [row[0] for row in rows])
+                    columns = [[*column] for column in zip(*rows)][1:]
+                    wanted = other.run_many(same, *columns[:2], *([*map(int, column)] for column in columns[2:]))
+                    self.assertEqual(machine._run_read(read, bytes([1])).lines(), wanted.lines())
+                    self.assertEqual({*machine._changed()}, {*columns[1]})
+                    self.assertEqual(machine._changed(), [])
+            self.assertEqual(machine.store_rows(), other.store_rows())
+            self.assertTrue(300 < taken < 1200, taken)
+
+    @unittest.skipUnless(bohm.NATIVE, "ctypes reads no lines")
+    def test_wrong_reading(self):
+        with opened() as machine, opened() as other:
+            add = machine.prepare(ADD)
+            line = "call add a 1\n"
+            for count in (0, 2, -1, 1 << 40):
+                self.assertIsNone(add._read("add", line, count))
+            self.assertIsNone(machine.prepare("procedure 2\nreads\nwrites\nend\n")._read("add", "call add\n", 1))
+            read = add._read("add", line, 1)
+            with self.assertRaises(ValueError):
+                other._run_read(read, b"\0")
+            with self.assertRaises(ValueError):
+                machine._run_read(read, b"\1")
+            with self.assertRaises(TypeError):
+                machine._run_read(add, b"\0")
+            with self.assertRaises(ValueError):
+                machine._run_read(type(read)(), b"\0")
+            self.assertEqual(machine._changed(), [])
+            self.assertEqual(machine._run_read(read, b"\0").lines(), ["1 commit 1"])
+            add.close()
+            with self.assertRaises(bohm.ClosedError):
+                machine._run_read(read, b"\0")
+            many = "".join(f"call add k{at} 1\n" for at in range(LONG))
+            add = machine.prepare(ADD)
+            machine._changed()
+            self.assertEqual(machine._run_read(add._read("add", many, LONG), b"\0")[-1].timestamp, LONG + 1)
+            self.assertEqual(sorted(machine._changed()), sorted(f"k{at}" for at in range(LONG)))
+            self.assertEqual(machine._known, LONG + 1)
+
+    def test_sums(self):
+        """Sums of SHA-256 modulo 2^256, of texts of all lengths around a block's."""
+        rng, before = random.Random(4), "f" * 60 + "0123"
+        pairs = [("".join(map(chr, rng.choices(range(33, 127), k=rng.randrange(65)))), "x\xe9"[rng.randrange(2)] * size) for size in range(200)]
+        total = int(before, 16) + sum(int(hashlib.sha256(f"{one} {other}".encode()).hexdigest(), 16) for one, other in pairs)
+        self.assertEqual(bohm.hashes.summed(before, pairs), f"{total % (1 << 256):064x}")
+        self.assertEqual(bohm.hashes.summed(before, iter(pairs[:0])), before)
+        self.assertEqual(bohm.hashes.summed("0" * 64, [("abc", "")]), hashlib.sha256(b"abc ").hexdigest())
 
 
 if __name__ == "__main__":

@@ -12,6 +12,7 @@ LIBRARY, STEPS = bohm.load(sys.argv[1]), int(sys.argv[2])
 SWITCH = ctypes.CDLL(None)
 MANY = 4096 + 40
 ADD = "procedure 2\nkey k\nvalue n\nreads k\nwrites k\nset k = k + $n\nshow k\nend\n"
+LINES = "call #r1 add a 1\n" * MANY
 TEXT = "log 2\n" + "txn\nreads a\nwrites a\nset a = a + 1\nshow a\nend\n" * MANY
 
 
@@ -34,6 +35,9 @@ WORKS = {
     "many calls": lambda trial: trial.machine.run(trial.calls),
     "many calls by names": lambda trial: trial.machine.run(trial.names),
     "columns": lambda trial: trial.machine.run_many(trial.add, *trial.columns),
+    **({"lines": lambda trial: trial.machine._run_read(trial.add._read("add", LINES, MANY), b"\0"),
+        "names of keys": lambda trial: trial.machine._changed(),
+        "sums": lambda trial: bohm.hashes.summed("0" * 64, [("a", "b")])} if bohm.NATIVE else {}),
     "segment": lambda trial: trial.machine.apply(TEXT),
     "replies": lambda trial: trial.machine.replies(),
     "key": lambda trial: trial.machine.key("b").handle,

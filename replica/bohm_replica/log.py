@@ -138,7 +138,7 @@ class Log:
     def move(self, group: Sequence[Planned], numbers: Dict[str, int], ran: Sequence[Ran], requests: Sequence[Tuple[str, str]]) -> None:
         """Moves the position behind entries that have run."""
         here = places.moved(self.position, [planned.entry for planned in group])
-        here = here._replace(rules=group[-1].rules, requests=places.summed(here.requests, requests),
+        here = here._replace(rules=group[-1].rules, requests=bohm.hashes.summed(here.requests, requests),
                              answers=places.chained_answers(here.answers, (each.answers for each in ran)))
         if any(b"define " in planned.entry.value for planned in group):
             here = here._replace(procedures=places.hash_of(self.ledger.procedures))

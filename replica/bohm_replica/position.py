@@ -8,6 +8,7 @@ import hashlib
 import sqlite3
 from typing import Dict, Iterable, List, NamedTuple, Sequence, Tuple
 
+from .bohm_of import bohm
 from .keys import Digest
 
 TABLES = {
@@ -68,13 +69,6 @@ def chained_answers(chain: str, answers: Iterable[Sequence[str]]) -> str:
     return chain
 
 
-def summed(before: str, requests: Iterable[Tuple[str, str]]) -> str:
-    """The sum with the hashes of more ids and their answers. It doesn't depend on their order."""
-    hashed, number = hashlib.sha256, int.from_bytes
-    total = sum((number(hashed(f"{request} {answer}".encode()).digest(), "big") for request, answer in requests), int(before, 16))
-    return f"{total % (1 << 256):064x}"
-
-
 def hash_of(procedures: Dict[str, str]) -> str:
     made = EMPTY
     for name, text in sorted(procedures.items()):
@@ -116,7 +110,7 @@ def read(connection: sqlite3.Connection) -> Tuple[Position, Dict[str, int], List
 
 def sum_of(connection: sqlite3.Connection) -> str:
     """The sum over all ids that the file has, with their answers."""
-    return summed(ZERO, connection.execute("SELECT id, answer FROM request"))
+    return bohm.hashes.summed(ZERO, connection.execute("SELECT id, answer FROM request"))
 
 
 def moved(position: Position, entries: Sequence[Entry]) -> Position:

@@ -10,7 +10,7 @@
 `answer` runs a whole log. Texts are `str` or any bytes-like object. A call that fails raises an exception of its status's
 class, a subclass of `BohmError`; a ledger on a disk raises `LedgerError` too. `NATIVE` is whether an extension module
 makes the library's calls, and not ctypes."""
-from . import entries
+from . import entries, hashes
 from ._core import NATIVE, Call, Key
 from .client import Client, DeniedError, Read, UnavailableError
 from .entries import Refused
@@ -32,5 +32,5 @@ __all__ = [
     "Key", "Ledger", "LedgerError", "Library", "Machine", "NoKeyError", "NoLedgerError", "OutOfMemoryError", "Pending",
     "Procedure", "Read", "Reason", "Refused", "RefusedError", "Replies", "Reply", "Statement", "Status", "StoppedError", "Store",
     "TimestampsError", "TrimmedError", "UnavailableError", "UnfitError", "UnsortedError", "WaitingError", "answer",
-    "entries", "load",
+    "entries", "hashes", "load",
 ]

@@ -3,6 +3,7 @@
 A signal's handler may run between any two steps, and raise. So a machine notes what the library has run before replies are
 taken, and a later call finds them."""
 import ctypes
+import hashlib
 import operator
 import re
 import struct
@@ -169,6 +170,14 @@ def use_replies(replies: type) -> None:
 def _reply(behind: int, rows: bytes, values: bytes, place: int) -> Reply:
     outcome, statement, first, count = ROW.unpack_from(rows, place * ROW.size)
     return Reply(behind + place + 1, struct.unpack_from(f"={count}q", values, first * 8), REASONS[outcome], statement)
+
+
+def summed(before: str, pairs: Iterable[Tuple[str, str]]) -> str:
+    """The sum modulo 2^256 of a number and of the SHA-256 of the two texts of each pair, with a space between them; numbers have 64
+    hexadecimal digits."""
+    hashed, number = hashlib.sha256, int.from_bytes
+    total = sum((number(hashed(f"{first} {second}".encode()).digest(), "big") for first, second in pairs), int(before, 16))
+    return f"{total % (1 << 256):064x}"
 
 
 def _octets(text: Any) -> bytes:

@@ -160,6 +160,9 @@ class Form:
         # The sets' keys by their places among the arguments and, behind those, the keys that are no parameters.
         self.fixed: List[str] = []
         self.reads, self.writes = ([*map(self.placed, line.split(" ")[1:])] for line in lines[sets:sets + 2])
+        # The places of parameters that are written, and the other keys that are.
+        self.written = bytes(place for place in self.writes if place < self.count)
+        self.fixed_writes = [self.fixed[place - self.count] for place in self.writes if place >= self.count]
         # Lines with a slot for each argument, and the places of these arguments.
         slots = [f"let ${value} = {{{place}}}" for place, value in enumerate(self.values, len(self.keys))]
         body = "".join(f"{line}\n" for line in [*slots, *map(self.slotted, lines[sets + 2:])])

@@ -42,10 +42,10 @@ def commit(file: LedgerFile, state: State, texts: Sequence[str], beside: Optiona
 def run(file: LedgerFile, state: State, texts: Sequence[str]) -> Ran:
     """Runs entries, which aren't stored."""
     alike = state.alike(texts) if len(texts) > 1 else None
-    ids = alike.ids if alike else []
-    if alike and are_new(file, ids):
+    if alike and are_new(file, [*filter(None, alike.ids)]):
         replies = state.run_alike(alike)
-        requests = [(row[0], line) for row, line in zip(alike.rows, lines_of(replies)) if row[0]] if ids else []
+        pairs = zip(alike.ids, lines_of(replies))
+        requests = [*pairs] if all(alike.ids) else [pair for pair in pairs if pair[0]]
         return Ran(replies, "".join(texts), requests)
     under_way = Commit(file, state, texts)
     under_way.take_all()

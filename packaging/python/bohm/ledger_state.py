@@ -1,8 +1,8 @@
 """What a ledger holds in memory: the machine that has run its entries, and its procedures."""
 from array import array
-from typing import Collection, Dict, Iterable, Iterator, List, NamedTuple, Optional, Sequence, Set, Tuple, Union
+from typing import TYPE_CHECKING, Collection, Dict, Iterable, Iterator, List, NamedTuple, Optional, Sequence, Set, Tuple, Union
 
-from . import entries
+from . import _core, entries
 from .entries import Call, Definition, Entry, Form, Refused, Transaction
 from .errors import NoKeyError, RefusedError, UnsortedError
 from .ledger_file import DamagedError
@@ -10,6 +10,9 @@ from .library import Library
 from .machine import Machine, answer
 from .procedures import Procedure
 from .replies import Reply, reply_of
+
+if TYPE_CHECKING:
+    from ._native import ReadCalls
 
 # The bytes of text that a machine is given at once, and at most a transaction more. Its limit is twice as much.
 LONGEST_TEXT = 1 << 25
@@ -46,14 +49,13 @@ class Prepared(NamedTuple):
 
 
 class Alike(NamedTuple):
-    """Calls of one procedure: of each its id, or an empty text, and its arguments."""
+    """Calls of one procedure that are all accepted: of each its id, or an empty text; and their arguments, in rows behind the id, or as the
+    extension has read them."""
 
     prepared: Prepared
-    rows: List[Tuple[str, ...]]
-
-    @property
-    def ids(self) -> List[str]:
-        return [row[0] for row in self.rows if row[0]]
+    ids: List[str]
+    rows: Sequence[Tuple[str, ...]]
+    read: "Optional[ReadCalls]" = None
 
 
 class State:
@@ -90,6 +92,8 @@ class State:
 
     def changes(self) -> Iterator[Tuple[str, Optional[int]]]:
         """The keys that may have changed since the last checkpoint, with their values."""
+        if _core.NATIVE:
+            self.changed.update(self.machine._changed())
         for key in sorted(self.changed):
             yield key, self.machine.value_at(key)
 
@@ -123,18 +127,28 @@ class State:
         words = texts[0].rstrip("\n").split(" ", 3)
         at = 2 if words[1:] and words[1].startswith("#") else 1
         prepared = self.procedures.get(words[at]) if words[0] == "call" and len(words) > at else None
-        rows = prepared.form.rows(texts) if prepared else None
-        return Alike(prepared, rows) if prepared and rows else None
+        if not prepared:
+            return None
+        if _core.NATIVE and self.machine._known < MOST_HANDLES:
+            read = prepared.procedure._read(words[at], "".join(texts), len(texts))
+            return Alike(prepared, read.ids, (), read) if read else None
+        rows = prepared.form.rows(texts)
+        return Alike(prepared, [row[0] for row in rows], rows) if rows else None
 
     def run_alike(self, alike: Alike) -> Sequence[Reply]:
         """Runs calls of one procedure, and returns their replies. After an exception any part may have run."""
-        columns = [*zip(*alike.rows)][1:]
+        form = alike.prepared.form
+        if alike.read:
+            replies: Sequence[Reply] = self.machine._run_read(alike.read, form.written)
+            self.top += len(replies)
+            self.changed.update(form.fixed_writes)
+            return self.numbered(replies)
         if len(self.handles) < MOST_HANDLES:
-            return self.numbered(self.run_columns(alike.prepared, columns))
-        replies: List[Reply] = []
-        for piece in pieces([alike.prepared.form.instance(row[1:]) for row in alike.rows]):
-            replies += self.apply(piece)
-        return replies
+            return self.numbered(self.run_columns(alike.prepared, [*zip(*alike.rows)][1:]))
+        found: List[Reply] = []
+        for piece in pieces([form.instance(row[1:]) for row in alike.rows]):
+            found += self.apply(piece)
+        return found
 
     def run_columns(self, prepared: Prepared, columns: Sequence[Tuple[str, ...]]) -> Sequence[Reply]:
         """Runs calls whose arguments are in columns, keys by their handles."""
@@ -143,8 +157,9 @@ class State:
         values = [array("q", map(int, column)) for column in columns[len(form.keys):]]
         replies = self.machine.run_many(procedure, *keys, *values)
         self.top += len(replies)
-        for place in form.writes:
-            self.changed.update(columns[place] if place < form.count else (form.fixed[place - form.count],))
+        self.changed.update(form.fixed_writes)
+        for place in form.written:
+            self.changed.update(columns[place])
         return replies
 
     def handles_of(self, keys: Sequence[str]) -> Iterator[int]:

@@ -335,6 +335,7 @@ static PyMethodDef procedure_methods[] = {
     {"_prepare", procedure_prepare, METH_VARARGS, "Reads and checks a text."},
     {"_statement", procedure_statement, METH_VARARGS, "The line and the text of a statement."},
     {"_describe", procedure_describe, METH_VARARGS, "Sets edition and parameters."},
+    {"_read", procedure_read, METH_VARARGS, "Reads lines that are calls."},
     {"call", (PyCFunction)(void (*)(void))procedure_call, METH_VARARGS | METH_KEYWORDS, "A call with these arguments."},
     {"close", procedure_close, METH_NOARGS, "Frees the procedure. Does nothing if it is closed."},
     {0}};

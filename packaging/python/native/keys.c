@@ -74,6 +74,9 @@ static int has_key_room(machine_object *machine) {
         if (!handles) return 0;
         machine->handles[i] = handles;
     }
+    uint8_t *changed = PyMem_Realloc(machine->changed, room);
+    if (!changed) return 0;
+    machine->changed = changed;
     machine->key_room = room;
     return 1;
 }
@@ -83,6 +86,7 @@ static PyObject *add_key(machine_object *machine, const char *at, size_t len, Py
     if (!has_key_room(machine)) return PyErr_NoMemory();
     known_key *key = machine->keys + machine->key_count;
     for (int i = 0; i < 3; i++) machine->handles[i][machine->key_count] = NO_HANDLE;
+    machine->changed[machine->key_count] = 0;
     key->len = (uint32_t)len;
     memcpy(key->at, at, len);
     PyObject *index = PyLong_FromSize_t(machine->key_count);
@@ -94,19 +98,42 @@ static PyObject *add_key(machine_object *machine, const char *at, size_t len, Py
     return index;
 }
 
-/* The place of a key among those that are known, where it is put if it isn't there. A new reference. */
-static PyObject *index_of(machine_object *machine, const char *at, size_t len) {
+/* The place of a key among those that are known, where it is put if it isn't there. A new reference. Needs a turn. */
+static PyObject *looked_up(machine_object *machine, const char *at, size_t len) {
     PyObject *bytes = PyBytes_FromStringAndSize(at, (Py_ssize_t)len);
-    if (!bytes || begin_reading(machine) < 0) {
-        Py_XDECREF(bytes);
-        return NULL;
-    }
+    if (!bytes) return NULL;
     PyObject *index = PyDict_GetItemWithError(machine->indices, bytes);
     if (index) Py_INCREF(index);
     else if (!PyErr_Occurred()) index = add_key(machine, at, len, bytes);
-    end_reading(machine);
     Py_DECREF(bytes);
     return index;
+}
+
+static PyObject *index_of(machine_object *machine, const char *at, size_t len) {
+    if (begin_reading(machine) < 0) return NULL;
+    PyObject *index = looked_up(machine, at, len);
+    end_reading(machine);
+    return index;
+}
+
+/* Where a key's place is kept. Keys that have one hash only take longer. */
+static size_t recent_slot(const char *at, size_t len) {
+    uint32_t hash = 2166136261u;
+    for (size_t i = 0; i < len; i++) hash = (hash ^ (uint8_t)at[i]) * 16777619u;
+    return (hash ^ hash >> 15) % RECENT_KEYS;
+}
+
+int find_key(machine_object *machine, const char *at, size_t len, uint32_t *index) {
+    uint32_t *recent = machine->recent + recent_slot(at, len);
+    const known_key *key = machine->keys + *recent;
+    if (*recent >= machine->key_count || key->len != len || memcmp(key->at, at, len)) {
+        PyObject *found = looked_up(machine, at, len);
+        if (!found) return -1;
+        *recent = (uint32_t)PyLong_AsUnsignedLong(found);
+        Py_DECREF(found);
+    }
+    *index = *recent;
+    return 0;
 }
 
 /* A key of a machine, at a place among its known ones. Takes the reference to the place. */

@@ -138,6 +138,7 @@ static void machine_dealloc(PyObject *self) {
     PyObject_GC_UnTrack(self);
     close_handles(machine);
     PyMem_Free(machine->keys);
+    PyMem_Free(machine->changed);
     for (int i = 0; i < 3; i++) PyMem_Free(machine->handles[i]);
     Py_XDECREF(machine->indices);
     Py_XDECREF(machine->pending);
@@ -290,6 +291,23 @@ static PyObject *machine_counts(PyObject *self, PyObject *nothing) {
                          (unsigned long long)counts.bytes, (unsigned long)counts.left);
 }
 
+/* The names of the known keys that calls that were read may have written since the last time. */
+static PyObject *machine_changed(PyObject *self, PyObject *nothing) {
+    machine_object *machine = (machine_object *)self;
+    (void)nothing;
+    if (begin_reading(machine) < 0) return NULL;
+    PyObject *names = PyList_New(0);
+    for (size_t i = 0; names && i < machine->key_count; i++) {
+        if (!machine->changed[i]) continue;
+        PyObject *name = PyUnicode_FromStringAndSize(machine->keys[i].at, machine->keys[i].len);
+        if (!name || PyList_Append(names, name) < 0) Py_CLEAR(names);
+        else machine->changed[i] = 0;
+        Py_XDECREF(name);
+    }
+    end_reading(machine);
+    return names;
+}
+
 static PyObject *machine_is_closed(PyObject *self, void *nothing) {
     (void)nothing;
     return PyBool_FromLong(!((machine_object *)self)->machine.at);
@@ -300,6 +318,7 @@ static PyObject *run_method(PyObject *self, PyObject *calls) { return machine_ru
 static PyObject *calls_text_method(PyObject *self, PyObject *calls) { return machine_calls_text((machine_object *)self, calls); }
 static PyObject *compact_method(PyObject *self, PyObject *none) { return machine_compact((machine_object *)self, none); }
 static PyObject *columns_method(PyObject *self, PyObject *args) { return machine_run_columns((machine_object *)self, args); }
+static PyObject *read_method(PyObject *self, PyObject *args) { return machine_run_read((machine_object *)self, args); }
 static PyObject *replies_method(PyObject *self, PyObject *none) { return machine_replies((machine_object *)self, none); }
 
 #define WITH_WORDS(call) (PyCFunction)(void (*)(void))call, METH_VARARGS | METH_KEYWORDS
@@ -309,6 +328,8 @@ static PyMethodDef methods[] = {
     {"run", run_method, METH_O, "Runs calls."},
     {"_calls_text", calls_text_method, METH_O, "The log that calls of one edition are, of which a batch has room."},
     {"_run_columns", columns_method, METH_VARARGS, "Runs a procedure on columns of arguments."},
+    {"_run_read", read_method, METH_VARARGS, "Runs calls that a procedure has read, and notes the keys at these places as changed."},
+    {"_changed", machine_changed, METH_NOARGS, "The names of the keys that were noted, and are then no more."},
     {"replies", replies_method, METH_NOARGS, "The replies that no call has returned."},
     {"value_at", WITH_WORDS(machine_value_at), "A key's value at a timestamp, or at the top."},
     {"snapshot", WITH_WORDS(machine_snapshot), "The snapshot at a timestamp, or at the top."},
@@ -321,6 +342,7 @@ static PyMethodDef methods[] = {
     {0}};
 
 static PyMemberDef members[] = {
+    {"_known", T_PYSSIZET, offsetof(machine_object, key_count), READONLY, "How many keys were looked up."},
     {"floor", T_UINT, offsetof(machine_object, floor), READONLY, "The least timestamp that can be read."},
     {"top", T_UINT, offsetof(machine_object, top), READONLY, "The timestamp of the last transaction."},
     {0}};

@@ -5,7 +5,7 @@ PyObject *error_for, *refusal_for, *stopped_for, *busy_error, *no_key_error, *cl
 PyObject *reply_class, *replies_class, *reasons[5];
 newfunc new_tuple;
 static PyObject *tuple_new;
-PyTypeObject *table_type, *replies_type, *key_type, *procedure_type, *call_type, *machine_type;
+PyTypeObject *table_type, *replies_type, *key_type, *procedure_type, *call_type, *read_type, *machine_type;
 
 /* Sets the exception that a function of bohm.errors makes. */
 static PyObject *raise_made(PyObject *error) {
@@ -66,7 +66,9 @@ static PyObject *use_replies(PyObject *module, PyObject *class) {
 }
 
 static PyMethodDef functions[] = {
-    {"use_replies", use_replies, METH_O, "Sets the class of the replies that calls return, a subclass of Rows."}, {0}};
+    {"use_replies", use_replies, METH_O, "Sets the class of the replies that calls return, a subclass of Rows."},
+    {"summed", sum_of_hashes, METH_VARARGS, "The sum of a number and of the hashes of pairs of texts."},
+    {0}};
 
 static struct PyModuleDef definition = {
     PyModuleDef_HEAD_INIT, "bohm._native", "Machines and procedures over a library that is loaded.", -1, functions,
@@ -84,7 +86,7 @@ __attribute__((visibility("default"))) PyObject *PyInit__native(void) {
     if (add_type(module, "Table", table_type = make_table_type()) < 0 || add_type(module, "Rows", replies_type = make_replies_type()) < 0 ||
         add_type(module, "Machine", machine_type = make_machine_type()) < 0 || add_type(module, "Key", key_type = make_key_type()) < 0 ||
         add_type(module, "Procedure", procedure_type = make_procedure_type()) < 0 ||
-        add_type(module, "Call", call_type = make_call_type()) < 0)
+        add_type(module, "Call", call_type = make_call_type()) < 0 || add_type(module, "ReadCalls", read_type = make_read_type()) < 0)
         return NULL;
     return use_replies(NULL, (PyObject *)replies_type), module;
 }

@@ -125,6 +125,12 @@ typedef struct {
     uint32_t index;
 } key_object;
 
+/* Bytes of a text that somebody holds. */
+typedef struct {
+    const char *at;
+    uint32_t len;
+} span;
+
 int is_key(const char *at, size_t len);
 /* The bytes of a str or of a bytes-like object. *held is a new reference to what they are in. */
 int bytes_of(PyObject *text, const char **at, size_t *len, PyObject **held);
@@ -134,6 +140,8 @@ int key_bytes(PyObject *key, const char **at, size_t *len, PyObject **held);
  * Needs the machine's turn. */
 uint32_t handle_of(machine_object *machine, uint32_t edition, uint32_t index, uint32_t *handle);
 uint32_t open_list(machine_object *machine, uint32_t edition);
+/* Sets *index to a key's place among those that are known, where it is put if it isn't there. -1 with an exception set. Needs a turn. */
+int find_key(machine_object *machine, const char *at, size_t len, uint32_t *index);
 
 /* --- calls.c --- */
 
@@ -164,6 +172,21 @@ static inline int64_t *call_values(call_object *call) {
     return (int64_t *)(call->keys + call->procedure->key_count);
 }
 
+/* Calls of a procedure, read from their lines. */
+typedef struct {
+    PyObject_HEAD
+    procedure_object *procedure;
+    PyObject *text; /* whose bytes the keys are */
+    size_t count;
+    span *keys; /* those of each call in the order of the parameters, one call after another, and so the values */
+    int64_t *values;
+    PyObject *ids;
+} read_object;
+
+/* The calls that lines of a text are: all accepted calls of the procedure, by this name, so many; None if they aren't that, or if a
+ * value has more than 18 bytes. */
+PyObject *procedure_read(PyObject *self, PyObject *args);
+
 /* Fills the arguments of a call, each key with a reference of its own. -1 with an exception set, and no reference. */
 int fill_arguments(procedure_object *procedure, PyObject *args, PyObject *named, key_argument *keys, int64_t *values);
 void drop_arguments(key_argument *keys, Py_ssize_t count);
@@ -172,6 +195,9 @@ uint32_t push_call(procedure_object *procedure, const key_argument *keys, const 
 uint32_t run_directly(procedure_object *procedure, const key_argument *keys, const int64_t *values, bohm_reply *row, int64_t *shown);
 
 /* --- machine.c, running.c --- */
+
+/* Places of keys that were found last, by a hash of their bytes. */
+#define RECENT_KEYS 4096
 
 struct machine_object {
     PyObject_HEAD
@@ -185,6 +211,8 @@ struct machine_object {
     known_key *keys;
     uint32_t *handles[3]; /* those of the keys on the machine, and in the lists of editions 1 and 2 */
     size_t key_count, key_room;
+    uint8_t *changed; /* of each known key, whether calls that were read may have written it since `_changed` */
+    uint32_t recent[RECENT_KEYS];
     size_t closings; /* how many of its procedures were closed */
     PyObject *indices; /* the place in `keys` of each key that was looked up, by its bytes */
     int is_held; /* whether replies wait in the library, of the transactions after `held_behind` */
@@ -205,6 +233,7 @@ PyObject *machine_run(machine_object *machine, PyObject *calls);
 PyObject *machine_calls_text(machine_object *machine, PyObject *calls);
 PyObject *machine_compact(machine_object *machine, PyObject *nothing);
 PyObject *machine_run_columns(machine_object *machine, PyObject *args);
+PyObject *machine_run_read(machine_object *machine, PyObject *args);
 PyObject *machine_replies(machine_object *machine, PyObject *nothing);
 PyObject *call_once(procedure_object *procedure, PyObject *args, PyObject *named);
 
@@ -222,13 +251,18 @@ Py_ssize_t column_length(PyObject *column, PyObject *name);
 extern PyObject *error_for, *refusal_for, *stopped_for, *busy_error, *no_key_error, *closed_error, *note_on;
 extern PyObject *reply_class, *replies_class, *reasons[5];
 extern newfunc new_tuple;
-extern PyTypeObject *table_type, *replies_type, *key_type, *procedure_type, *call_type, *machine_type;
+extern PyTypeObject *table_type, *replies_type, *key_type, *procedure_type, *call_type, *read_type, *machine_type;
 
 /* Sets the exception of a status, or of a refusal with its line or report. Each returns null. */
 PyObject *raise_status(uint32_t status);
 PyObject *raise_refusal(table_object *table, bohm_bytes *report);
 
 PyTypeObject *make_table_type(void), *make_replies_type(void), *make_key_type(void), *make_procedure_type(void),
-    *make_call_type(void), *make_machine_type(void);
+    *make_call_type(void), *make_read_type(void), *make_machine_type(void);
+
+/* --- hashes.c --- */
+
+/* The sum modulo 2^256 of a number in hexadecimal and of the SHA-256 of the two texts of each pair, with a space between them. */
+PyObject *sum_of_hashes(PyObject *module, PyObject *args);
 
 #endif

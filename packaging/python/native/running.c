@@ -454,6 +454,49 @@ static Py_ssize_t count_of(procedure_object *by, PyObject *columns) {
     return column_length(PyTuple_GetItem(columns, 0), PyTuple_GetItem(by->key_count ? by->keys : by->values, 0));
 }
 
+/* Takes calls that were read: their keys' places, and their values. Marks keys at places that are written as changed. */
+static int take_read(job *job, const read_object *read, const uint8_t *writes, size_t writes_len) {
+    machine_object *machine = job->machine;
+    size_t keys = (size_t)read->procedure->key_count, values = (size_t)read->procedure->value_count;
+    job->indices = PyMem_Malloc((read->count * keys + 1) * sizeof *job->indices);
+    job->values = PyMem_Malloc((read->count * values + 1) * sizeof *job->values);
+    if (!job->indices || !job->values) return PyErr_NoMemory(), -1;
+    memcpy(job->values, read->values, read->count * values * sizeof *job->values);
+    if (begin_reading(machine) < 0) return -1;
+    int status = 0;
+    for (size_t i = 0; !status && i < read->count * keys; i++) status = find_key(machine, read->keys[i].at, read->keys[i].len, job->indices + i);
+    for (size_t i = 0; !status && i < read->count; i++)
+        for (size_t j = 0; j < writes_len; j++) machine->changed[job->indices[i * keys + writes[j]]] = 1;
+    end_reading(machine);
+    return status;
+}
+
+/* Runs the calls of a job of one procedure. */
+static PyObject *run_evenly(job *job, size_t count) {
+    if (divide_evenly(job, count) < 0 || begin_run(job->machine) < 0) return NULL;
+    if (!job->procedure->procedure.at) PyErr_SetString(closed_error, "the procedure is closed");
+    if (job->procedure->procedure.at && has_timestamps(job->machine, count)) return run_job(job);
+    end_writing(job->machine);
+    return NULL;
+}
+
+PyObject *machine_run_read(machine_object *machine, PyObject *args) {
+    PyObject *given;
+    const char *writes;
+    Py_ssize_t writes_len, at = 0;
+    if (!PyArg_ParseTuple(args, "O!y#", read_type, &given, &writes, &writes_len)) return NULL;
+    read_object *read = (read_object *)given;
+    procedure_object *by = read->procedure;
+    if (!by || by->machine != machine) return PyErr_Format(PyExc_ValueError, "the procedure belongs to another machine");
+    while (at < writes_len && (uint8_t)writes[at] < by->key_count) at++;
+    if (at < writes_len) return PyErr_Format(PyExc_ValueError, "the procedure has no key parameter %d", (uint8_t)writes[at]);
+    job job = {.machine = machine, .run = run_columns, .procedure = by, .is_long = read->count >= MANY_CALLS};
+    int taken = take_read(&job, read, (const uint8_t *)writes, (size_t)writes_len);
+    PyObject *replies = taken < 0 ? NULL : run_evenly(&job, read->count);
+    drop_job(&job);
+    return replies;
+}
+
 PyObject *machine_run_columns(machine_object *machine, PyObject *args) {
     PyObject *given, *columns, *replies = NULL;
     if (!PyArg_ParseTuple(args, "O!O!", procedure_type, &given, &PyTuple_Type, &columns)) return NULL;
@@ -462,11 +505,7 @@ PyObject *machine_run_columns(machine_object *machine, PyObject *args) {
     Py_ssize_t count = count_of(by, columns);
     if (count < 0) return NULL;
     job job = {.machine = machine, .run = run_columns, .procedure = by, .is_long = count >= MANY_CALLS};
-    if (!take_columns(&job, columns, (size_t)count) && !divide_evenly(&job, (size_t)count) && !begin_run(machine)) {
-        if (!by->procedure.at) PyErr_SetString(closed_error, "the procedure is closed");
-        if (by->procedure.at && has_timestamps(machine, (size_t)count)) replies = run_job(&job);
-        else end_writing(machine);
-    }
+    if (!take_columns(&job, columns, (size_t)count)) replies = run_evenly(&job, (size_t)count);
     drop_job(&job);
     return replies;
 }
