@@ -8,10 +8,13 @@ from .grpc import DEADLINE, DENIED, EXHAUSTED, FAILED, INVALID, PASSED, UNAUTHEN
 from .keys import NO_FENCE, Fence, Keys, end_of, read_fence
 from .messages import CREATE, EQUAL, Message
 from .position import Entry, Position
+from .tasks import cancelled
 from .ways import Tls
 
 # Seconds: for one try of a request, at first and at most, and between two tries.
 TRY, SLOWEST, PAUSE = 2.0, 20.0, 0.05
+# Seconds within which a member says whether it leads.
+LEADING = 1.0
 # Seconds that a request may take with all its tries, and without a word of a watch until that is told.
 PATIENCE, SILENCE = 60.0, 3.0
 
@@ -95,8 +98,13 @@ class Etcd:
         self.faults: Dict[str, int] = {}
         self.heard = time.monotonic()
 
-    def way(self) -> Way:
-        member = self.members[self.at]
+    @property
+    def member(self) -> str:
+        """The member that is asked."""
+        return self.members[self.at]
+
+    def way(self, member: Optional[str] = None) -> Way:
+        member = member or self.member
         if member not in self.open:
             self.open[member] = ways.Gateway(member, self.tls) if self.by_gateway else ways.Grpc(member, self.tls)
         return self.open[member]
@@ -104,6 +112,30 @@ class Etcd:
     def turn(self) -> None:
         """Goes over to the next member."""
         self.at = (self.at + 1) % len(self.members)
+
+    async def turn_to_leader(self) -> None:
+        """Goes over to the member that leads, if one says so in time: others pass on to it what they are to put, and hear of it later."""
+        asking = [asyncio.ensure_future(self.leads(member)) for member in self.members]
+        try:
+            for each in asyncio.as_completed(asking, timeout=LEADING):
+                leader = await each
+                if leader:
+                    self.at = self.members.index(leader)
+                    return
+        except asyncio.TimeoutError:
+            pass
+        finally:
+            await cancelled(asking)
+
+    async def leads(self, member: str) -> Optional[str]:
+        """The member, if it leads the cluster."""
+        try:
+            said = await self.way(member).call("status", {}, self.token or None, LEADING)
+        except Fault:
+            return None
+        head = said.get("header", {})
+        leads = said.get("leader") is not None and said["leader"] == head.get("member_id") and head.get("cluster_id") == self.cluster
+        return member if leads else None
 
     async def close(self) -> None:
         for way in self.open.values():

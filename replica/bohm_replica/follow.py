@@ -98,10 +98,14 @@ class Follower:
 
     async def news(self) -> AsyncIterator[News]:
         """All news, without end. Raises Rewound, Behind or Refused."""
-        near = NEAR
+        near, is_first = NEAR, True
         while True:
             try:
                 told = await self.etcd.confirm(self.position())
+                if is_first:
+                    # Later the members are taken in turn, since this one may be what failed.
+                    is_first = False
+                    await self.etcd.turn_to_leader()
                 after = order_at(self.position())
                 # The last revision too: a replica that ended within it has run a part of it.
                 first = max(1, after[0])

@@ -14,7 +14,7 @@ def of(replica: "Replica") -> Dict[str, Any]:
     log, told = replica.log, replica.told
     found: Dict[str, Any] = {
         "name": replica.options.name, "version": replica.version, "url": replica.options.url, "rules": RULES,
-        "trouble": replica.trouble, "ready": replica.unready() is None, "leads": replica.leads,
+        "member": replica.etcd.member, "trouble": replica.trouble, "ready": replica.unready() is None, "leads": replica.leads,
         "etcd_heard_seconds_ago": round(time.monotonic() - replica.etcd.heard, 3), "memory_bytes": memory()}
     if log:
         position = log.position
