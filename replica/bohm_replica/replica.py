@@ -29,7 +29,7 @@ from .ways import Tls
 # Seconds from one look at etcd to the next, that it counts as heard of, and from one registration to the next.
 LOOK, LATELY, REGISTER = 1.0, 10.0, 5.0
 # Seconds until what has run is stored, together with what runs meanwhile.
-STORE = 0.02
+STORE = 0.05
 # Bytes of entries that are run without leaving the loop, and that are run at once.
 INLINE, SLICE = 1 << 15, 1 << 20
 # Seconds within which a second divergence ends a replica.
