@@ -1,5 +1,5 @@
 -- If a text is read as a document, the text printed from the settled document is the tidied text.
-use Rattle.std.proofs.Common.{◌≡◌, ℕ, Bool, List, [], refl, ap, sym, ◌∙◌, inl}
+use Rattle.std.proofs.Common.{◌≡◌, ℕ, Bool, List, [], None, refl, ap, sym, ◌∙◌, inl, inr}
 use Rattle.std.specs.List.{IsDistinct}
 use Rattle.std.specs.Str.{bytes_eq}
 use Rattle.bohm_types.specs.Document.{Document}
@@ -8,7 +8,9 @@ use Rattle.bohm_types.specs.Sound.{IsDocument}
 use Rattle.bohm_text.specs.Print.{print_doc}
 use Rattle.bohm_tidy.specs.Plain.{Written, written}
 use Rattle.bohm_tidy.specs.Settled.{settled}
-use Rattle.bohm_tidy.specs.Tidied.{IsTidied, IsTidiedByLines}
+use Rattle.bohm_tidy.specs.Tidied.{HasDouble, HasDoubleByLines, IsExactDoc, IsTidied, IsTidiedByLines, IsUnsettled, IsUnsettledOf, RefusesLines, RefusesLoose}
+use Rattle.bohm_tidy.specs.declared.fault.TidyFault.{TidyFault}
+use Rattle.bohm_tidy.specs.declared.fault.TidyFault.TheVariants.{Line, Short, Twice, NoMemory}
 
 pub exactly : (text exact : List ℕ) (d : Document) → IsDocument d → print_doc d ≡ text → IsDistinct bytes_eq (names_of d.store)
     → exact ≡ print_doc (settled [] [] d) → IsTidied text exact
@@ -33,3 +35,59 @@ read_by_lines text exact plain rs ws w d made text_is reads_is writes_is prints 
   };
   is = printed;
 }
+
+-- ---- a store that names a key twice
+
+double_exactly : (text : List ℕ) (d : Document) → IsDocument d → print_doc d ≡ text → ¬ IsDistinct bytes_eq (names_of d.store) → HasDouble text
+double_exactly text d sound prints double = record {
+  loose = record { document = d; no_reads = []; no_writes = [] };
+  sound = sound;
+  double = double;
+  read = inl (record { prints = prints; no_reads = refl; no_writes = refl });
+}
+
+double_by_lines : (text plain : List ℕ) (w : Written) (d : Document) → w ≡ written text → w.text ≡ plain → print_doc d ≡ plain → IsDocument d
+    → ¬ IsDistinct bytes_eq (names_of d.store) → HasDoubleByLines text
+double_by_lines text plain w d made text_is prints sound double = record {
+  loose = record { document = d; no_reads = w.no_reads; no_writes = w.no_writes };
+  sound = sound;
+  double = double;
+  read = record {
+    prints = prints ∙ sym text_is ∙ ap (λ (v : Written). v.text) made;
+    no_reads = ap (λ (v : Written). v.no_reads) made;
+    no_writes = ap (λ (v : Written). v.no_writes) made;
+  };
+}
+
+pub unsettled : (d : Document) (fault : TidyFault) → IsUnsettled fault → ¬ IsDistinct bytes_eq (names_of d.store) → IsUnsettledOf d fault
+unsettled d (Line n) is double = absurd is
+unsettled d Short is double = absurd is
+unsettled d (Twice places) is double = double
+unsettled d NoMemory is double = tt
+
+-- why a text whose exact lines are a document's has no exact text
+pub by_lines : (text plain : List ℕ) (w : Written) (d : Document) (fault : TidyFault) → w ≡ written text → w.text ≡ plain → print_doc d ≡ plain
+    → IsDocument d → IsUnsettledOf d fault → RefusesLines text fault
+by_lines text plain w d (Line n) made text_is prints sound is = absurd is
+by_lines text plain w d Short made text_is prints sound is = absurd is
+by_lines text plain w d (Twice places) made text_is prints sound double = double_by_lines text plain w d made text_is prints sound double
+by_lines text plain w d NoMemory made text_is prints sound is = tt
+
+-- why a document's text has no exact text
+pub of_exact : (text : List ℕ) (d : Document) (fault : TidyFault) → IsDocument d → print_doc d ≡ text → IsUnsettledOf d fault → RefusesLoose text fault
+of_exact text d (Line n) sound prints is = absurd is
+of_exact text d Short sound prints is = absurd is
+of_exact text d (Twice places) sound prints double = double_exactly text d sound prints double
+of_exact text d NoMemory sound prints is = tt
+
+-- why a text that isn't exact has no exact text
+pub not_exact : (text : List ℕ) (fault : TidyFault) → IsExactDoc text None → RefusesLines text fault → RefusesLoose text fault
+not_exact text (Line n) none refuses = (none, refuses.0, refuses.1)
+not_exact text Short none refuses = (none, refuses)
+not_exact text (Twice d) none double = record {
+  loose = double.loose;
+  sound = double.sound;
+  double = double.double;
+  read = inr (none, double.read);
+}
+not_exact text NoMemory none refuses = tt

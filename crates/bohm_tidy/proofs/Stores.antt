@@ -6,18 +6,18 @@ use Rattle.std.specs.Cmp.Lexicographic.{slice_cmp, nat_list_cmp_total, nat_list_
 use Rattle.std.specs.FinMap as finite
 use Rattle.std.specs.FinMap.Entries.{is_sorted, below_all, put, by_order}
 use Rattle.std.specs.List.{AllByRecursion, IsDistinct}
-use Rattle.std.specs.List.Sorted.{IsPermutation}
+use Rattle.std.specs.List.Sorted.{IsPermutation, IsSortedByKey}
 use Rattle.std.specs.Ordering.{nat_cmp, is_lt}
 use Rattle.std.specs.Str.{bytes_eq}
 use Rattle.std.specs.declared.cmp.Ordering.{Ordering}
 use Rattle.std.specs.declared.cmp.Ordering.TheVariants.{Less, Equal, Greater}
-use Rattle.std.proofs.lemmas.Bool.{and_parts}
+use Rattle.std.proofs.lemmas.Bool.{and_parts, false≢true}
 use Rattle.std.proofs.lemmas.List.Sorted.{IsPermutation-map, IsPermutation-sym}
 use Rattle.std.proofs.lemmas.Map.Keys.{IsDistinct-IsPermutation}
 use Rattle.bohm_types.specs.Keys.{names_of, rising, rises_from}
 use Rattle.bohm_types.specs.Sound.{IsEntry}
 use Rattle.bohm_txn.specs.Stores.{Store, store_of}
-use Rattle.bohm_txn.proofs.ForCallers.{less, rising_rest, same_moved, rising_distinct}
+use Rattle.bohm_txn.proofs.ForCallers.{less, rising_rest, same_moved, entries_listed, rising_distinct}
 
 abbrev Entries : Type 0
 Entries = List (List ℕ × ℤ)
@@ -77,6 +77,14 @@ distinct_moved es sorted moved r = IsDistinct-IsPermutation bytes_eq nat_list_eq
 pub entries_moved : (es sorted : Entries) → IsPermutation es sorted → rising (names_of sorted) ≡ true → sorted ≡ finite.entries (store_of es)
 entries_moved es sorted moved r = sym (rising_entries sorted r)
     ∙ ap (λ (s : Store). finite.entries s) (same_moved es sorted moved (distinct_moved es sorted moved r))
+
+-- entries with a key that doesn't ascend once they are sorted have a key twice
+pub double_moved : (es sorted : Entries) → IsPermutation es sorted → IsSortedByKey (λ e. e.0) cmp sorted → rising (names_of sorted) ≡ false
+    → ¬ IsDistinct bytes_eq (names_of es)
+double_moved es sorted moved order falls distinct =
+    let listed : sorted ≡ finite.entries (store_of sorted) = entries_listed es sorted moved distinct order in
+    let rises : rising (names_of sorted) ≡ true = ap (λ (fs : Entries). rising (names_of fs)) listed ∙ entries_rise (store_of sorted) in
+    false≢true (sym falls ∙ rises)
 
 -- ---- the store of sound entries has sound entries
 

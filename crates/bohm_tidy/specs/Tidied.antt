@@ -78,6 +78,20 @@ pub record IsLineOf (text : List ℕ) (n : ℕ) : Type 0 where
 abbrev pub HasBadLines : List ℕ → Type 0
 HasBadLines text = IsExactDoc (written text).text None
 
+-- the exact lines that the text is read as are those of a document whose store names a key twice
+pub record HasDoubleByLines (text : List ℕ) : Type 0 where
+  pub loose : Loose
+  pub sound : IsDocument loose.document
+  pub double : ¬ IsDistinct bytes_eq (names_of loose.document.store)
+  pub read : IsByLines text loose
+
+-- the text would have a loose reading, but its store names a key twice
+pub record HasDouble (text : List ℕ) : Type 0 where
+  pub loose : Loose
+  pub sound : IsDocument loose.document
+  pub double : ¬ IsDistinct bytes_eq (names_of loose.document.store)
+  pub read : IsExact text loose ⊎ (IsExactDoc text None × IsByLines text loose)
+
 -- a fault of a document whose keys can't be put in order
 abbrev pub IsUnsettled : TidyFault → Type 0
 IsUnsettled (Line n) = ⊥
@@ -85,18 +99,25 @@ IsUnsettled Short = ⊥
 IsUnsettled (Twice double) = Unit {0}
 IsUnsettled NoMemory = Unit {0}
 
+-- why this document's keys can't be put in order
+abbrev pub IsUnsettledOf : Document → TidyFault → Type 0
+IsUnsettledOf d (Line n) = ⊥
+IsUnsettledOf d Short = ⊥
+IsUnsettledOf d (Twice double) = ¬ IsDistinct bytes_eq (names_of d.store)
+IsUnsettledOf d NoMemory = Unit {0}
+
 -- why the exact lines that a text is read as have no exact text
 abbrev pub RefusesLines : List ℕ → TidyFault → Type 0
 RefusesLines text (Line n) = HasBadLines text × IsLineOf text n
 RefusesLines text Short = HasBadLines text
-RefusesLines text (Twice double) = Unit {0}
+RefusesLines text (Twice double) = HasDoubleByLines text
 RefusesLines text NoMemory = Unit {0}
 
 -- a text that isn't read, as it stands or by its lines, is refused
 abbrev pub RefusesLoose : List ℕ → TidyFault → Type 0
 RefusesLoose text (Line n) = IsExactDoc text None × HasBadLines text × IsLineOf text n
 RefusesLoose text Short = IsExactDoc text None × HasBadLines text
-RefusesLoose text (Twice double) = Unit {0}
+RefusesLoose text (Twice double) = HasDouble text
 RefusesLoose text NoMemory = Unit {0}
 
 -- ---- keys in order

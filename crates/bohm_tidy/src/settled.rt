@@ -1,6 +1,6 @@
 //! The text of a document with sorted keys.
 
-ghost use Rattle.std.specs.Prelude.{◌≡◌, ◌++◌, ◌∷◌, [], IfOk, OnOk, codes, if◌then◌else◌};
+ghost use Rattle.std.specs.Prelude.{◌≡◌, ◌++◌, ◌∷◌, [], Err, IfOk, OnOk, codes, if◌then◌else◌};
 ghost use Rattle.std.specs.List.{IsDistinct, flat_map};
 ghost use Rattle.std.specs.Str.{bytes_eq};
 ghost use Rattle.bohm_types.specs.KeySets.{key_set};
@@ -151,6 +151,7 @@ pub fn print_settled(
     ensures text { IfOk result
         (λ text. text.items ≡ print_doc (settled no_reads.now no_writes.now doc.now)) }
     ensures distinct { OnOk result (IsDistinct bytes_eq (names_of doc.now.store)) }
+    ensures twice { result ≡ Err Unsettled.Twice → ¬ IsDistinct bytes_eq (names_of doc.now.store) }
 {
     let store = settled_store(alloc, doc.store())?;
     Ok(print_with_store(alloc, doc, store.as_slice(), no_reads, no_writes)?)

@@ -1,12 +1,12 @@
 //! The store sorted by key.
 
-ghost use Rattle.std.specs.Prelude.{◌≡◌, IfOk, OnOk};
+ghost use Rattle.std.specs.Prelude.{◌≡◌, Err, IfOk, OnOk};
 ghost use Rattle.std.specs.FinMap.{entries};
 ghost use Rattle.std.specs.List.{IsDistinct};
 ghost use Rattle.std.specs.Str.{bytes_eq};
 ghost use Rattle.bohm_types.specs.Keys.{names_of};
 ghost use Rattle.bohm_txn.specs.Stores.{store_of};
-ghost use Rattle.bohm_tidy.specs.declared.store.Unsettled.TheVariants.{NoMemory};
+ghost use Rattle.bohm_tidy.specs.declared.store.Unsettled.TheVariants.{NoMemory, Twice};
 
 use bohm_txn::is_store_rising;
 use bohm_types::{Key, Value};
@@ -48,6 +48,7 @@ impl From<bohm_types::NoMemory> for Unsettled {
 pub fn settled_store(alloc: Global, store: &[(Key, Value)]) -> Result<Vec<(Key, Value)>, Unsettled>
     ensures listed { IfOk result (λ list. list.items ≡ entries (store_of store.now)) }
     ensures distinct { OnOk result (IsDistinct bytes_eq (names_of store.now)) }
+    ensures twice { result ≡ Err Twice → ¬ IsDistinct bytes_eq (names_of store.now) }
 {
     let mut list = Vec::with_capacity(alloc, store.len())?;
     list.extend_from_slice(store)?;

@@ -7,7 +7,7 @@ ghost use Rattle.bohm_types.specs.Keys.{names_of};
 ghost use Rattle.bohm_text.specs.Print.{print_doc};
 ghost use Rattle.bohm_tidy.specs.Settled.{settled};
 ghost use Rattle.bohm_tidy.specs.Tidied.{IsExactDoc, IsLineOf, IsTidied, IsTidiedByLines};
-ghost use Rattle.bohm_tidy.specs.Tidied.{IsUnsettled, RefusesLines, RefusesLoose};
+ghost use Rattle.bohm_tidy.specs.Tidied.{IsUnsettled, IsUnsettledOf, RefusesLines, RefusesLoose};
 
 use crate::doubles::first_double;
 use crate::fault::{Double, TidyFault};
@@ -87,10 +87,11 @@ fn exact_doc(alloc: Global, seed: DrawnSeed, text: &[u8]) -> Result<Option<Doc>,
 }
 
 /// The exact text of a document that was read from an exact text.
+#[tactic(auto, using(crate::proofs::Readings::unsettled))]
 fn tidy_exactly(alloc: Global, doc: &Doc) -> Result<Vec<u8>, TidyFault>
     ensures text { IfOk result (λ exact. exact.items ≡ print_doc (settled [] [] doc.now)) }
     ensures distinct { OnOk result (IsDistinct bytes_eq (names_of doc.now.store)) }
-    ensures err { IfErr result IsUnsettled }
+    ensures err { IfErr result (IsUnsettledOf doc.now) }
 {
     match print_settled(alloc, doc, &[], &[]) {
         Ok(exact) => Ok(exact),
@@ -108,6 +109,7 @@ fn tidy_exactly(alloc: Global, doc: &Doc) -> Result<Vec<u8>, TidyFault>
 ///
 /// `Line` and `Short` say where the text stops being a prefix of a log, `Twice` which key the store
 /// names twice. `NoMemory` says that an allocation failed.
+#[tactic(auto, using(crate::proofs::Readings::of_exact, crate::proofs::Readings::not_exact))]
 pub fn tidy(alloc: Global, seed: DrawnSeed, text: &[u8]) -> Result<Vec<u8>, TidyFault>
     ensures ok { IfOk result (λ exact. IsTidied text.now exact.items) }
     ensures err { IfErr result (RefusesLoose text.now) }
