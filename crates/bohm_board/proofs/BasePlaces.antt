@@ -42,7 +42,7 @@ declared_any (t ∷ ts) k = rw (
   declared_any ts k,
 ) refl
 
-length-declared : (ts : List Txn) → All IsWellFormedTxn ts → length (declared_keys ts) ≤ 32 * length ts
+pub length-declared : (ts : List Txn) → All IsWellFormedTxn ts → length (declared_keys ts) ≤ 32 * length ts
 length-declared [] h = omega arith
 length-declared (t ∷ ts) h =
     let each = usable t (h 0 t (omega arith)) in

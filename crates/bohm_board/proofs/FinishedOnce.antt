@@ -1,5 +1,5 @@
 -- Each position is finished once, by one pass, so that a pass finished no more positions than have an outcome.
-use Rattle.std.proofs.Common.{◌≡◌, ◌≢◌, ℕ, zero, suc, ◌+◌, ◌-◌, ◌<◌, ◌≤◌, List, [], ◌∷◌, ◌++◌, Bool, true, false, cond, length, get_or, set}
+use Rattle.std.proofs.Common.{◌≡◌, ◌≢◌, ℕ, suc, ◌+◌, ◌-◌, ◌<◌, ◌≤◌, List, [], ◌∷◌, ◌++◌, Bool, cond, length, get_or, set}
 use Rattle.std.proofs.Common.{refl, sym, ap, ◌∙◌, subst, ⊎_elim, arith, eqb, eq-eqb, ne_eqb, length-set, get_or-set_other, None, Some}
 use Rattle.std.specs.Prelude.{Option, count_by, nat_lt}
 use mathlib.Core.Logic.{dite}
@@ -14,12 +14,12 @@ use Rattle.bohm_board.specs.declared.status.Status.TheVariants as seen
 use Rattle.bohm_board.specs.declared.status.Claimed.TheVariants as won
 use Rattle.bohm_board.specs.declared.knowledge.View.{View}
 use Rattle.bohm_board.specs.declared.closed.Closed.{Closed}
-use Rattle.bohm_board.specs.Batches.{IsIn, first_of, position, rights_of, txns_of}
+use Rattle.bohm_board.specs.Batches.{IsIn, first_of, txns_of}
 use Rattle.bohm_board.specs.Closings.{batch_of_closed, unfinished_in, IsFinished}
-use Rattle.bohm_board.specs.Core.{Progress, Open, Claimed, Done, State, empty_state}
+use Rattle.bohm_board.specs.Core.{Claimed, Done, State, empty_state}
 use Rattle.bohm_board.specs.Events.{Event, LookPresence, LookValue, Status, Claim, FillValue, FillPresence, Finish, Split, Join}
 use Rattle.bohm_board.specs.Events.{IsAllowed, IsRun, IsReached, point_update, final_state, next_state}
-use Rattle.bohm_board.specs.Views.{Presence, Absent, Present, Holds, after_status, after_claim, after_presence_look, after_value_store, after_presence_store}
+use Rattle.bohm_board.specs.Views.{Presence, Absent, Present, after_status, after_claim, after_presence_look, after_value_store, after_presence_store}
 use Rattle.bohm_board.specs.Views.{after_finish, after_split, after_join, spent_view}
 use Rattle.bohm_board.specs.Law.{IsLawful, IsFinishedOnce, times}
 use Rattle.bohm_board.specs.Encoding.{progress_word}

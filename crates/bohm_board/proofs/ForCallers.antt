@@ -2,7 +2,7 @@
 
 -- a later view keeps everything that an earlier view observed
 pub use Rattle.bohm_board.proofs.Monotonicity.{keeps_same, keeps_then, keeps_along, keeps_claimed, keeps_looked}
-pub use Rattle.bohm_board.proofs.Monotonicity.{keeps_joined, still_done, still_known, knows_on, knows_looked, joined_done}
+pub use Rattle.bohm_board.proofs.Monotonicity.{keeps_joined, keeps_saw, still_done, still_known, knows_on, knows_looked, joined_done}
 pub use Rattle.bohm_board.proofs.FinishedOnce.{finished_saw, none_left}
 -- a batch's transactions, accesses and wanted sources
 pub use Rattle.bohm_board.proofs.SlotNumbers.{txn_there, width_there}

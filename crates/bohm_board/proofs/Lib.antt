@@ -16,4 +16,5 @@ mod EntrySearch
 mod Monotonicity
 mod PassInvariant
 mod BasePlaces
+mod DeclaredPlaces
 pub mod ForCallers

@@ -1,5 +1,5 @@
 -- The data of a batch: its transactions and plan, and the cells of its keys before it.
-use Rattle.std.specs.Prelude.{◌≡◌, ℕ, ◌+◌, ◌<◌, ◌≤◌, ◌^◌, All, List, [], ◌∷◌, ◌++◌, length, map}
+use Rattle.std.specs.Prelude.{◌≡◌, ℕ, ◌+◌, ◌<◌, ◌≤◌, ◌^◌, All, List, [], ◌∷◌, ◌++◌, length, map, Some, slice_get}
 use Rattle.bohm_types.specs.declared.cell.Cell.{Cell}
 use Rattle.bohm_types.specs.declared.cell.Cell.TheVariants as cells
 use Rattle.bohm_types.specs.Txn.{Txn}
@@ -8,6 +8,8 @@ use Rattle.bohm_txn.specs.Faulty.{IsWellFormedTxn}
 use Rattle.bohm_txn.specs.Meaning.{Look, newest}
 use Rattle.bohm_board.specs.declared.base.Base.{Base}
 use Rattle.bohm_board.specs.declared.base.Base.TheVariants.{Listed, Top}
+use Rattle.bohm_board.specs.declared.transactions.Transactions.{Transactions}
+use Rattle.bohm_board.specs.declared.transactions.Transactions.TheVariants.{Lent, Own}
 use Rattle.bohm_place.specs.Noting.{AreKeysOf, AreNoted}
 use Rattle.bohm_place.specs.Plans.{Planned, IsRightPlan}
 use Rattle.bohm_types.specs.Limits.{largest_batch}
@@ -45,6 +47,15 @@ abbrev pub cells_of : Base → Look
 cells_of (Listed entries) = listed_cells entries
 cells_of (Top t) = top_cell t
 
--- a listed base has the keys of the batch, and each access of the plan whose source is `Before` has the index of its key among them
+-- the entries of one key have the same cell
+abbrev pub AreSteady : List (List ℕ × Cell) → Type 0
+AreSteady entries = (i : ℕ) (e : List ℕ × Cell) → slice_get entries i ≡ Some e → newest entries e.0 cells.Absent ≡ e.1
+
+-- in a listed base each access of the plan whose source is `Before` has the index of an entry of its key, and a key has one cell
 abbrev pub IsBaseFor : List Txn → Planned → Base → Type 0
-IsBaseFor txns plan base = (entries : List (List ℕ × Cell)) → base ≡ Listed entries → IsBase txns entries × AreNoted txns plan (keys_of entries)
+IsBaseFor txns plan base = (entries : List (List ℕ × Cell)) → base ≡ Listed entries → AreSteady entries × AreNoted txns plan (keys_of entries)
+
+-- the transactions of a batch
+abbrev pub txns_in : Transactions → List Txn
+txns_in (Lent txns) = txns
+txns_in (Own document) = document.log

@@ -2,6 +2,7 @@
 use Rattle.std.specs.Prelude.{◌≡◌, ℕ, ◌+◌, ◌-◌, ◌<◌, ◌≤◌, List, [], ◌++◌, length, Contains, Bool, false, Option, Some, slice_get, unwrap_or, if◌then◌else◌}
 use Rattle.std.specs.Option.{option_map}
 use Rattle.bohm_types.specs.declared.cell.Cell.{Cell}
+use Rattle.bohm_types.specs.Document.{Document}
 use Rattle.bohm_types.specs.Txn.{Txn}
 use Rattle.bohm_txn.specs.declared.outcome.Outcome.{Outcome}
 use Rattle.bohm_txn.specs.Meaning.{Look}
@@ -11,14 +12,19 @@ use Rattle.bohm_place.specs.declared.access.Source.TheVariants.{Within}
 use Rattle.bohm_place.specs.declared.declared_set.DeclaredSet.{DeclaredSet}
 use Rattle.bohm_place.specs.Slots.{width, offset}
 use Rattle.bohm_place.specs.Plans.{Planned, keys_in, planned_in, reads_of, writes_of}
-use Rattle.bohm_board.specs.Bases.{cells_of}
+use Rattle.bohm_board.specs.Bases.{cells_of, txns_in}
 use Rattle.bohm_board.specs.declared.batch.Batch.{Batch}
 use Rattle.bohm_board.specs.declared.slot.Slot.{Slot}
+use Rattle.bohm_board.specs.declared.transactions.Transactions.TheVariants.{Own}
 use Rattle.bohm_board.specs.declared.knowledge.Rights.{Rights}
 use Rattle.bohm_board.specs.Serial.{slots_from, outcomes}
 
 abbrev pub txns_of : Batch → List Txn
-txns_of b = b.txns
+txns_of b = txns_in b.txns
+
+-- the batch owns the document whose transactions it has
+abbrev pub Owns : Batch → Document → Type 0
+Owns b document = b.txns ≡ Own document
 
 abbrev pub plan_of : Batch → Planned
 plan_of b = b.plan

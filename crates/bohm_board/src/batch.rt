@@ -6,27 +6,31 @@ ghost use Rattle.bohm_types.specs.Keys.{rising};
 ghost use Rattle.bohm_hints.specs.Top.{top_cell};
 ghost use Rattle.bohm_place.specs.Plans.{keys_in, source_in, HasSourcesOf};
 ghost use Rattle.bohm_place.specs.declared.access.Source.TheVariants.{Before};
-ghost use Rattle.bohm_board.specs.Bases.{keys_of, listed_cells, IsBase, IsBaseFor, IsBatched};
-ghost use Rattle.bohm_board.specs.Bases.{most_batch_slots};
+ghost use Rattle.bohm_board.specs.Bases.{declared_keys, keys_of, listed_cells, most_batch_slots};
+ghost use Rattle.bohm_board.specs.Bases.{AreSteady, IsBase, IsBaseFor, IsBatched, txns_in};
 
 mod base_places;
+mod own_places;
 
 use crate::base::{Base, cell_of};
 use crate::batch::base_places::note_places;
+use crate::batch::own_places::note_in_order;
 use crate::slot::Slot;
+use crate::transactions::Transactions;
 use bohm_hints::TopCells;
 use bohm_log::{Keys, LogPart, TxnView};
 use bohm_place::{Access, DeclaredSet, Plan, Source, width};
+use bohm_txn::Checked;
 use bohm_types::{Cell, Items, Key};
 
 /// Transactions of a log that run together, their plan, and the cell before them of each key that
 /// they declare.
 pub struct Batch<'a> {
-    txns: LogPart<'a>,
+    txns: Transactions<'a>,
     plan: Plan,
     base: Base<'a>,
-    ghost batched: { IsBatched txns plan },
-    ghost based: { IsBaseFor txns plan base } by { Prim.hlevel props },
+    ghost batched: { IsBatched (txns_in txns) plan },
+    ghost based: { IsBaseFor (txns_in txns) plan base } by { Prim.hlevel props },
 }
 
 // Written by hand: a derived drop is proved again in each function that drops such a value.
@@ -40,10 +44,11 @@ impl<'a> Drop for Batch<'a> {
 }
 
 impl<'a> Batch<'a> {
-    ghost use Rattle.bohm_board.specs.Batches.{first_of, txns_of, plan_of, base_of};
+    ghost use Rattle.bohm_board.specs.Batches.{first_of, txns_of, plan_of, base_of, Owns};
     ghost use Rattle.bohm_board.specs.Batches.{txn_at, key_in, accesses_in, reads_at, writes_at};
     ghost use Rattle.bohm_board.specs.Batches.{position, number, rights_of, width_at, is_sure_at, IsIn, IsSlot};
     ghost use Rattle.std.specs.Option.{option_map};
+    ghost use Rattle.bohm_types.specs.Document.{Document};
     ghost use Rattle.bohm_types.specs.Txn.{Txn};
 
     /// A batch whose first transaction has the timestamp `first`. The base has exactly one entry
@@ -65,9 +70,43 @@ impl<'a> Batch<'a> {
         let mut plan = plan;
         note_places(&mut plan, &txns, &base);
         Batch {
-            txns,
+            txns: Transactions::Lent(txns),
             plan,
             base: Base::Listed(Items::from(base)),
+        }
+    }
+
+    /// A batch that owns its transactions, those of a document, and borrows nothing. The base has
+    /// an entry for each key that a transaction declares, in the order in which they are declared;
+    /// the entries of one key have the same cell. The time grows with the number of accesses.
+    pub fn own(document: Checked, plan: Plan, base: Vec<(Key, Cell)>) -> Batch<'static>
+        requires batched { IsBatched document.log plan }
+        requires keys { keys_of base.items ≡ declared_keys document.log }
+        requires steady { AreSteady base.items }
+        ensures first { first_of result ≡ plan.first }
+        ensures owns { Owns result document }
+        ensures plan { HasSourcesOf plan (plan_of result) }
+        ensures base { base_of result ≡ listed_cells base.items }
+    {
+        let mut plan = plan;
+        note_in_order(&mut plan, &document.log(), &base);
+        Batch {
+            txns: Transactions::Own(document),
+            plan,
+            base: Base::Listed(Items::from(base)),
+        }
+    }
+
+    /// The document of a batch that owns one.
+    pub fn into_document(self) -> Option<Checked>
+        ensures { (document : Document) → Owns self.entry document → result ≡ Some document }
+    {
+        let Batch { txns, plan, base } = self;
+        drop(plan);
+        drop(base);
+        match txns {
+            Transactions::Lent(_) => None,
+            Transactions::Own(document) => Some(document),
         }
     }
 
@@ -81,7 +120,7 @@ impl<'a> Batch<'a> {
         ensures base { base_of result ≡ top_cell top.entry }
     {
         Batch {
-            txns,
+            txns: Transactions::Lent(txns),
             plan,
             base: Base::Top(top),
         }
@@ -98,14 +137,14 @@ impl<'a> Batch<'a> {
     pub fn len(&self) -> u32
         ensures { result ≡ length (txns_of self.now) }
     {
-        self.txns.len() as u32
+        self.txns.part().len() as u32
     }
 
     /// The transactions, in the order of their timestamps.
-    pub(crate) fn txns(&self) -> &LogPart<'a>
-        ensures { result.now ≡ txns_of self.now }
+    pub(crate) fn txns(&self) -> LogPart<'_>
+        ensures { result ≡ txns_of self.now }
     {
-        &self.txns
+        self.txns.part()
     }
 
     /// The position of a timestamp, counted from the first.
@@ -118,11 +157,11 @@ impl<'a> Batch<'a> {
     }
 
     /// The transaction with the timestamp `t`.
-    pub fn txn(&self, t: u32) -> TxnView<'a>
+    pub fn txn(&self, t: u32) -> TxnView<'_>
         requires { IsIn self.now t }
         ensures { txn_at self.now t ≡ Some result }
     {
-        self.txns.txn((t - self.plan.first()) as usize)
+        self.txns.part().txn((t - self.plan.first()) as usize)
     }
 
     /// Whether the transaction with the timestamp `t` is sure. Its time is constant.

@@ -27,10 +27,13 @@ impl<'a> TableRule<(), View, Batch<'a>> for BoardRule {
     ghost first = { λ batch. new_view (rights_of batch) };
 }
 
+/// The table of a board's words.
+pub(crate) type Words<'a> = Table<(), View, Batch<'a>, BoardRule, Global>;
+
 /// The shared words of a batch: a status word for each position, and after them a presence word for
 /// each slot and a value word for each slot.
 pub struct Board<'a> {
-    table: Table<(), View, Batch<'a>, BoardRule, Global>,
+    table: Words<'a>,
     batch: Batch<'a>,
     // Memory for the words once the board is closed.
     columns: Columns,

@@ -14,6 +14,7 @@ pub mod laws;
 mod pass;
 mod slot;
 mod status;
+mod transactions;
 
 pub use batch::Batch;
 pub use board::Board;

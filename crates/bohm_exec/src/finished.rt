@@ -67,6 +67,17 @@ impl<'a> Finished<'a> {
         self.closed.batch()
     }
 
+    /// The batch, without its results.
+    pub fn into_batch(self) -> Batch<'a>
+        ensures { result ≡ batch_of_finished self.entry }
+    {
+        let Finished {
+            closed,
+            evaluations: _,
+        } = self;
+        closed.into_batch()
+    }
+
     fn slot(&self, slot: Slot) -> Cell
         requires { IsSlot (batch_of_finished self.now) slot }
         ensures { IsRightCell (batch_of_finished self.now) slot result }

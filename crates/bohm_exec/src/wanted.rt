@@ -12,7 +12,7 @@ use bohm_log::Keys;
 use bohm_place::{DeclaredSet, Source};
 
 /// The keys of a declared set of a position.
-pub(crate) fn keys_at<'a>(batch: &Batch<'a>, t: u32, set: DeclaredSet) -> Keys<'a>
+pub(crate) fn keys_at<'a>(batch: &'a Batch<'_>, t: u32, set: DeclaredSet) -> Keys<'a>
     requires { IsIn batch.now t }
     ensures keys { (x : Txn) → txn_at batch.now t ≡ Some x → result ≡ keys_in set x }
     ensures all { length result ≡ length (accesses_in set batch.now t) }

@@ -4,3 +4,5 @@ pub mod InstanceLaw
 pub mod Calling
 pub mod OwnLaw
 pub mod StatementLaws
+mod CallLaws
+pub mod ForCallers

@@ -9,12 +9,13 @@ ghost use Rattle.bohm_text.specs.Print.{print_doc};
 ghost use Rattle.bohm_procedures.specs.Accepting.{Takes, TakesCounts};
 
 use crate::procedure::Procedure;
-use bohm_log::{CallPlaces, DrawnSeed, HashSeed, KeyHandle, SharedNames};
+use bohm_log::{CallPlaces, DrawnSeed, FixedSeed, HashSeed, KeyHandle, SharedNames};
 use bohm_text::print_doc;
 use bohm_txn::Checked;
 use bohm_types::{Edition, Key, MOST_TXNS, NoMemory, Value};
 use std::alloc::Global;
 use std::marker::Model;
+use std::mem;
 
 /// Instances of procedures, one after another. Contracts see them as a document over the empty
 /// store.
@@ -208,6 +209,24 @@ impl Calls {
         ensures { IfOk result (λ text. text.items ≡ print_doc self.now) }
     {
         print_doc(alloc, self.segment.doc())
+    }
+
+    /// Takes the segment out of the list, which is empty until `put_segment` puts it back. It
+    /// allocates nothing.
+    pub fn take_segment(&mut self, alloc: Global) -> Checked
+        ensures taken { result ≡ self.old }
+        ensures left { self.new ≡ empty_document self.old.edition }
+    {
+        let (seed, edition) = (HashSeed::from(FixedSeed), self.segment.edition());
+        let empty = Checked::sharing(alloc, seed, edition, SharedNames::none());
+        mem::replace(&mut self.segment, empty)
+    }
+
+    /// Puts a segment that `take_segment` returned back in the place of the list's calls.
+    pub fn put_segment(&mut self, segment: Checked)
+        ensures { self.new ≡ segment }
+    {
+        self.segment = segment;
     }
 
     /// The log of the instances, which a machine can run.

@@ -2,6 +2,7 @@
 #![tactic(auto)]
 
 mod calls;
+mod compiled;
 mod fault;
 pub mod laws;
 mod procedure;
@@ -9,6 +10,7 @@ mod statements;
 
 pub use bohm_log::KeyHandle;
 pub use calls::Calls;
+pub use compiled::Compiled;
 pub use fault::ProcedureFault;
 pub use procedure::Procedure;
 pub use statements::StatementLine;

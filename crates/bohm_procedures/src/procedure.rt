@@ -1,6 +1,6 @@
 //! Procedures that were accepted.
 
-ghost use Rattle.std.specs.Prelude.{◌≡◌, ◌≢◌, ◌++◌, [], ◌∷◌, ℕ, Err, IfOk, OnOk, length};
+ghost use Rattle.std.specs.Prelude.{◌≡◌, ◌≢◌, ◌++◌, [], ◌∷◌, ℕ, Err, IfOk, IfSome, OnOk, length};
 ghost use Rattle.bohm_log.specs.Drafting.{IsBetween};
 ghost use Rattle.bohm_types.specs.Procedure.{procedure_with};
 ghost use Rattle.bohm_text.specs.Cut.{whole_lines};
@@ -9,8 +9,10 @@ ghost use Rattle.bohm_text.specs.ProcedureText.{IsProcedure, print_procedure};
 ghost use Rattle.bohm_txn.specs.Faulty.{IsFirstFault, alone};
 ghost use Rattle.bohm_txn.specs.declared.fault.CheckFault.{CheckFault};
 ghost use Rattle.bohm_procedures.specs.Accepting.{BeginsWithLets, IsAccepted, IsRefusedBy};
+ghost use Rattle.bohm_procedures.specs.Compiling.{IsCompiled};
 ghost use Rattle.bohm_procedures.specs.declared.fault.ProcedureFault.TheVariants as faults;
 
+use crate::compiled::{Compiled, compile};
 use crate::fault::ProcedureFault;
 use bohm_log::{CloseFault, Doc, Draft, DrawnSeed, HashSeed, Log, LogFault, Template};
 use bohm_text::{ProcedureReader, TextFault, parse_procedure};
@@ -21,24 +23,40 @@ use std::marker::Model;
 
 /// An accepted procedure. Its text was read, and its own instance is well formed, so all its
 /// instances are.
-#[derive(Drop)]
 pub struct Procedure {
     template: Template,
     text: Vec<u8>,
+    compiled: Option<Compiled>,
+}
+
+// Written out: a derived drop is proved anew in each function that drops such a value.
+impl Drop for Procedure {
+    fn drop(self) {
+        let Self {
+            template,
+            text,
+            compiled,
+        } = self;
+        drop(template);
+        drop(text);
+        drop(compiled);
+    }
 }
 
 impl Model for Procedure {
-    ghost use Rattle.std.specs.Prelude.{◌≡◌};
+    ghost use Rattle.std.specs.Prelude.{◌≡◌, IfSome};
     ghost use Rattle.bohm_types.specs.Procedure.{Procedure};
     ghost use Rattle.bohm_text.specs.ProcedureText.{IsProcedure, print_procedure};
     ghost use Rattle.bohm_procedures.specs.Accepting.{IsAccepted};
+    ghost use Rattle.bohm_procedures.specs.Compiling.{IsCompiled};
 
     ghost Value = { Procedure };
 
     ghost view = { λ p. p.template };
 
     ghost invariant = { λ p. IsAccepted p.template × IsProcedure p.template
-        × (print_procedure p.template ≡ p.text.items) };
+        × (print_procedure p.template ≡ p.text.items)
+        × IfSome p.compiled (IsCompiled p.template) };
 }
 
 impl Procedure {
@@ -77,10 +95,18 @@ impl Procedure {
                     draft,
                     ..
                 } = reader;
-                let template = accept(alloc, seed, edition, draft, keys, values.as_slice())?;
+                let Accepted { template, compiled } = accept(
+                    alloc,
+                    seed,
+                    edition,
+                    draft,
+                    keys,
+                    values.as_slice(),
+                )?;
                 Ok(Procedure {
                     template,
                     text: kept,
+                    compiled,
                 })
             }
         }
@@ -114,6 +140,15 @@ impl Procedure {
         Ok(Vec::from_slice(alloc, self.text.as_slice())?)
     }
 
+    /// Its compiled body. There is none if the test of the body's shape failed; calls of such a
+    /// procedure run by their instances.
+    pub fn compiled(&self) -> Option<&Compiled>
+        ensures compiled { IfSome result (λ c. IsCompiled self.now c.now) }
+        ensures accepted { IsAccepted self.now }
+    {
+        self.compiled.as_ref()
+    }
+
     pub(crate) fn text(&self) -> &[u8]
         ensures sound { IsProcedure self.now }
         ensures is { result.now ≡ print_procedure self.now }
@@ -142,6 +177,13 @@ fn close_whole(log: &mut Log<HashSeed>, draft: &Draft<HashSeed>) -> Result<(), L
     }
 }
 
+/// The parts of a procedure that its text doesn't have as they are.
+#[derive(Drop)]
+struct Accepted {
+    template: Template,
+    compiled: Option<Compiled>,
+}
+
 /// The procedure whose own instance was read, if that instance is well formed.
 fn accept(
     alloc: Global,
@@ -150,12 +192,13 @@ fn accept(
     draft: Draft<HashSeed>,
     keys: Vec<Key>,
     values: &[Key],
-) -> Result<Template, ProcedureFault>
+) -> Result<Accepted, ProcedureFault>
     requires edition { draft.txn.edition ≡ edition }
     requires lets { BeginsWithLets draft.txn values.now }
     requires whole { IsBetween draft }
-    ensures ok { IfOk result (λ p. p ≡ procedure_with draft.txn keys.items values.now) }
-    ensures accepted { IfOk result IsAccepted }
+    ensures ok { IfOk result (λ p. p.template ≡ procedure_with draft.txn keys.items values.now) }
+    ensures accepted { IfOk result (λ p. IsAccepted p.template) }
+    ensures compiled { IfOk result (λ p. IfSome p.compiled (IsCompiled p.template)) }
     ensures line { (n : ℕ) → result ≢ Err (faults.Line n) }
     ensures short { result ≢ Err faults.Short }
     ensures fault { (f : CheckFault) → result ≡ Err (faults.Check f)
@@ -171,9 +214,16 @@ fn accept(
     };
     match check(doc) {
         Err(fault) => Err(ProcedureFault::Check(fault)),
-        Ok(_) => match Template::new(alloc, draft, keys, values) {
-            Ok(template) => Ok(template),
-            Err(_) => Err(ProcedureFault::NoMemory),
-        },
+        Ok(checked) => {
+            let own = checked.log().txn(0);
+            let compiled = match compile(alloc, &own, keys.as_slice(), values) {
+                Ok(compiled) => compiled,
+                Err(_) => return Err(ProcedureFault::NoMemory),
+            };
+            match Template::new(alloc, draft, keys, values) {
+                Ok(template) => Ok(Accepted { template, compiled }),
+                Err(_) => Err(ProcedureFault::NoMemory),
+            }
+        }
     }
 }

@@ -11,7 +11,7 @@ use Rattle.bohm_types.specs.declared.cell.Cell.{Cell}
 use Rattle.bohm_types.specs.declared.cell.Cell.TheVariants.{Absent}
 use Rattle.bohm_types.specs.Txn.{Txn}
 use Rattle.bohm_log.specs.Parts.{Begins, name_at}
-use Rattle.bohm_txn.specs.Faulty.{IsWellFormedTxn}
+use Rattle.bohm_store.specs.Writes.{IsRunnable}
 use Rattle.bohm_txn.specs.Meaning.{Look}
 use Rattle.bohm_txn.specs.Serial.{after}
 use Rattle.bohm_store.specs.declared.numbered_write.NumberedWrite.{NumberedWrite}
@@ -121,5 +121,5 @@ pub one_listed : (names : List (List ℕ)) (u : ℕ) (look : Look) (t : Txn) (ws
     → map (named_write names) ws ≡ all_txn_writes u look (t ∷ [])
 one_listed names u look t ws h = h.listed ∙ sym (append-nil (txn_writes u (after look t) t.writes))
 
-pub one_formed : (t : Txn) → IsWellFormedTxn t → All IsWellFormedTxn (t ∷ [])
-one_formed t h = All-cons IsWellFormedTxn t [] h (All-nil IsWellFormedTxn)
+pub one_formed : (t : Txn) → IsRunnable t → All IsRunnable (t ∷ [])
+one_formed t h = All-cons IsRunnable t [] h (All-nil IsRunnable)

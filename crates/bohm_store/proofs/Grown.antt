@@ -7,7 +7,7 @@ use Rattle.std.proofs.lemmas.List.Elements.{All-nil, All-weaker}
 use Rattle.bohm_types.specs.Keys.{is_among}
 use Rattle.bohm_log.specs.Parts.{name_at}
 use Rattle.bohm_types.specs.Txn.{Txn}
-use Rattle.bohm_txn.specs.Faulty.{IsWellFormedTxn}
+use Rattle.bohm_store.specs.Writes.{IsRunnable}
 use Rattle.bohm_txn.specs.Meaning.{Look}
 use Rattle.bohm_board.specs.declared.batch.Batch.{Batch}
 use Rattle.bohm_board.specs.Batches.{first_of, base_of, txns_of}
@@ -18,6 +18,7 @@ use Rattle.bohm_store.specs.Chains.{Climb, UpTo, versions_of_writes}
 use Rattle.bohm_store.specs.Nexts.{Agree, IsNext, IsSettled}
 use Rattle.bohm_store.specs.Writes.{all_txn_writes}
 use Rattle.bohm_store.proofs.Advanced.{one_formed, one_listed}
+use Rattle.bohm_store.proofs.Runnable.{all_runnable}
 use Rattle.bohm_store.proofs.Entries.{keys_named}
 use Rattle.bohm_store.proofs.SettledHistory.{made_produced, settled_low, settled_rises}
 use Rattle.bohm_store.proofs.WrittenVersions.{written_climbs}
@@ -38,14 +39,14 @@ pub batch_behind : (names : List (List ℕ)) (t : Timeline) (b : Batch) (ws : Li
 batch_behind names t b ws next writes = record {
   many = refl;
   some = b.batched.some;
-  formed = b.batched.formed;
+  formed = all_runnable (txns_of b) b.batched.formed;
   base = base_of b;
   agree = next.base;
   below = writes.below;
   listed = listed_next b t.top (map (named_write names) ws) next.first writes.listed;
 }
 
-pub txn_behind : (names : List (List ℕ)) (t : Timeline) (x : Txn) (ws : List NumberedWrite) → IsWellFormedTxn x
+pub txn_behind : (names : List (List ℕ)) (t : Timeline) (x : Txn) (ws : List NumberedWrite) → IsRunnable x
     → AreTxnWrites names (t.top + 1) (past t t.top) x ws → AreWritesBehind names t 1 (x ∷ []) ws
 txn_behind names t x ws well writes = record {
   many = refl;
@@ -57,7 +58,7 @@ txn_behind names t x ws well writes = record {
   listed = one_listed names (t.top + 1) (past t t.top) x ws writes;
 }
 
-module _ (names : List (List ℕ)) (base : Look) (txns : List Txn) (well : All IsWellFormedTxn txns) (some : 0 < length txns)
+module _ (names : List (List ℕ)) (base : Look) (txns : List Txn) (well : All IsRunnable txns) (some : 0 < length txns)
     (old : Numbered) (ws : List NumberedWrite) (h : IsNumbered old) (apart : IsDistinct bytes_eq names)
     (agree : Agree txns base (past (timeline names old) old.top)) (below : AreBelow (length names) ws)
     (listed : map (named_write names) ws ≡ all_txn_writes (old.top + 1) base txns) where

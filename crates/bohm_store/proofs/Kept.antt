@@ -8,7 +8,7 @@ use Rattle.bohm_types.specs.declared.cell.Cell.TheVariants.{Absent}
 use Rattle.bohm_types.specs.Txn.{Txn}
 use Rattle.bohm_types.specs.Keys.{is_among}
 use Rattle.bohm_log.specs.Parts.{name_at}
-use Rattle.bohm_txn.specs.Faulty.{IsWellFormedTxn}
+use Rattle.bohm_store.specs.Writes.{IsRunnable}
 use Rattle.bohm_store.specs.declared.version.Version.{Version}
 use Rattle.bohm_store.specs.Versions.{Timeline, cell_at, kept_versions, past, versions}
 use Rattle.bohm_store.specs.Chains.{UpTo}
@@ -41,7 +41,7 @@ grown_by_key names old new f apart at none k = ⊎_elim
     (λ absent. versions_none (versions_at new) names k absent ∙ sym (none k absent) ∙ ap (f k) (sym (versions_none (versions_at old) names k absent)))
     (number_of names k)
 
-module _ (was now : Timeline) (txns : List Txn) (low : ℕ) (well : All IsWellFormedTxn txns)
+module _ (was now : Timeline) (txns : List Txn) (low : ℕ) (well : All IsRunnable txns)
     (up : (k : List ℕ) → UpTo was.top (versions was k)) (floor : now.floor ≡ max was.floor low) (top : now.top ≡ was.top + length txns)
     (all : low ≤ was.floor → (k : List ℕ) → versions now k ≡ grown_versions was txns k)
     (kept : was.floor < low → (k : List ℕ) → versions now k ≡ kept_versions low (grown_versions was txns k))
@@ -74,7 +74,7 @@ module _ (was now : Timeline) (txns : List Txn) (low : ℕ) (well : All IsWellFo
   }
 
 -- as `kept_settled`, with all versions kept
-pub all_settled : (was now : Timeline) (txns : List Txn) → All IsWellFormedTxn txns → ((k : List ℕ) → UpTo was.top (versions was k))
+pub all_settled : (was now : Timeline) (txns : List Txn) → All IsRunnable txns → ((k : List ℕ) → UpTo was.top (versions was k))
     → now.floor ≡ was.floor → now.top ≡ was.top + length txns → ((k : List ℕ) → versions now k ≡ grown_versions was txns k)
     → IsDistinct bytes_eq (keys_of now.chains) → IsSettled was now txns
 all_settled was now txns well up floor top all apart = record {

@@ -27,4 +27,6 @@ mod Entries
 mod Counted
 mod Same
 mod Advanced
+mod Runnable
+mod CallCells
 pub mod ForCallers

@@ -8,10 +8,9 @@ use Rattle.std.proofs.lemmas.List.Elements.{All-head, All-tail, All-nil, All-con
 use Rattle.bohm_types.specs.declared.cell.Cell.{Cell}
 use Rattle.bohm_types.specs.Txn.{Txn}
 use Rattle.bohm_types.specs.Keys.{is_among}
-use Rattle.bohm_txn.specs.Faulty.{IsWellFormedTxn}
 use Rattle.bohm_txn.specs.Meaning.{Look, body}
 use Rattle.bohm_txn.specs.Serial.{after, replies, reply_of, state}
-use Rattle.bohm_txn.proofs.ForCallers.{kept, same_reads, same_after, usable}
+use Rattle.bohm_txn.proofs.ForCallers.{kept, same_reads, same_after}
 use Rattle.bohm_board.specs.declared.batch.Batch.{Batch}
 use Rattle.bohm_place.specs.Noting.{declares_key}
 use Rattle.bohm_board.specs.Batches.{base_of, txns_of}
@@ -19,6 +18,8 @@ use Rattle.bohm_store.specs.declared.version.Version.{Version}
 use Rattle.bohm_store.specs.Versions.{Rises, Timeline, cell_at, past, produced_versions}
 use Rattle.bohm_store.specs.Nexts.{Agree, IsNext}
 use Rattle.bohm_store.specs.Chains.{Above, UpTo}
+use Rattle.bohm_store.specs.Writes.{IsRunnable}
+use Rattle.bohm_store.proofs.Runnable.{all_runnable}
 use Rattle.bohm_store.proofs.Past.{cell_at-above, cell_at-append}
 
 -- the version that a transaction gives a key, if it declares to write the key
@@ -73,11 +74,11 @@ one_by : (u ts : ℕ) (b : Bool) (c before : Cell) → u ≤ ts → (b ≡ false
 one_by u ts true c before le same = let here : nat_le u ts ≡ true = grind (arith, nat_tests) in rw here refl
 one_by u ts false c before le same = sym (same refl)
 
-unwritten : (look : Look) (t : Txn) (k : List ℕ) → IsWellFormedTxn t → is_among t.writes k ≡ false → after look t k ≡ look k
-unwritten look t k well none = kept look t k (usable t well) (λ among. true≢false (sym among ∙ none))
+unwritten : (look : Look) (t : Txn) (k : List ℕ) → IsRunnable t → is_among t.writes k ≡ false → after look t k ≡ look k
+unwritten look t k well none = kept look t k well.usable (λ among. true≢false (sym among ∙ none))
 
 -- after the transaction at ts, each key has the cell of the newest produced version at or below ts
-pub produced_state : (n ts : ℕ) (look : Look) (txns : List Txn) (k : List ℕ) → All IsWellFormedTxn txns → ts ≤ n + length txns → n ≤ ts
+pub produced_state : (n ts : ℕ) (look : Look) (txns : List Txn) (k : List ℕ) → All IsRunnable txns → ts ≤ n + length txns → n ≤ ts
     → cell_at ts (produced_versions (n + 1) look txns k) (look k) ≡ state look txns (ts - n) k
 produced_state n ts look [] k well high low = let none : ts - n ≡ 0 = omega arith in rw none refl
 produced_state n ts look (t ∷ txns) k well high low = ⊎_elim
@@ -87,8 +88,8 @@ produced_state n ts look (t ∷ txns) k well high low = ⊎_elim
     let rest = produced_versions (n + 1 + 1) (after look t) txns k in
     cell_at-append ts head rest (look k)
     ∙ ap (cell_at ts rest) (one_by (n + 1) ts (is_among t.writes k) (after look t k) (look k) (omega arith)
-    (unwritten look t k (All-head IsWellFormedTxn t txns well)))
-    ∙ produced_state (n + 1) ts (after look t) txns k (All-tail IsWellFormedTxn t txns well) (omega arith) (omega arith)
+    (unwritten look t k (All-head IsRunnable t txns well)))
+    ∙ produced_state (n + 1) ts (after look t) txns k (All-tail IsRunnable t txns well) (omega arith) (omega arith)
     ∙ rw next refl)
     (λ (le : ts ≤ n).
     let none : ts - n ≡ 0 = omega arith in
@@ -97,10 +98,10 @@ produced_state n ts look (t ∷ txns) k well high low = ⊎_elim
 
 -- ---- the cells of undeclared keys don't matter
 
-agree_after : (look other : Look) (t : Txn) (txns : List Txn) → IsWellFormedTxn t → Agree (t ∷ txns) look other
+agree_after : (look other : Look) (t : Txn) (txns : List Txn) → IsRunnable t → Agree (t ∷ txns) look other
     → Agree (t ∷ txns) (after look t) (after other t)
 agree_after look other t txns well same =
-    λ k declared. same_after look other t k (same_reads look other t (usable t well) (λ j among. same j
+    λ k declared. same_after look other t k (same_reads look other t well.usable (λ j among. same j
     (or_left (declares_key j t) (list_any (declares_key j) txns) (or_left (is_among t.reads j) (is_among t.writes j) among)))) (same k declared)
 
 one_same : (b : Bool) (u : ℕ) (c d : Cell) → (b ≡ true → c ≡ d) → one b u c ≡ one b u d
@@ -110,30 +111,30 @@ one_same false u c d same = refl
 both : (xs ys us vs : List Version) → xs ≡ us → ys ≡ vs → xs ++ ys ≡ us ++ vs
 both xs ys us vs e f = rw (e, f) refl
 
-pub produced_same : (u : ℕ) (look other : Look) (txns : List Txn) (k : List ℕ) → All IsWellFormedTxn txns → Agree txns look other
+pub produced_same : (u : ℕ) (look other : Look) (txns : List Txn) (k : List ℕ) → All IsRunnable txns → Agree txns look other
     → produced_versions u look txns k ≡ produced_versions u other txns k
 produced_same u look other [] k well same = refl
 produced_same u look other (t ∷ txns) k well same =
-    let next = agree_after look other t txns (All-head IsWellFormedTxn t txns well) same in
+    let next = agree_after look other t txns (All-head IsRunnable t txns well) same in
     both (one (is_among t.writes k) u (after look t k)) (produced_versions (u + 1) (after look t) txns k)
     (one (is_among t.writes k) u (after other t k)) (produced_versions (u + 1) (after other t) txns k)
     (one_same (is_among t.writes k) u (after look t k) (after other t k)
     (λ among. next k (or_left (declares_key k t) (list_any (declares_key k) txns) (or_right (is_among t.reads k) (is_among t.writes k) among))))
-    (produced_same (u + 1) (after look t) (after other t) txns k (All-tail IsWellFormedTxn t txns well)
+    (produced_same (u + 1) (after look t) (after other t) txns k (All-tail IsRunnable t txns well)
     (λ j declared. next j (or_right (declares_key j t) (list_any (declares_key j) txns) declared)))
 
-pub replies_same : (look other : Look) (txns : List Txn) → All IsWellFormedTxn txns → Agree txns look other → replies look txns ≡ replies other txns
+pub replies_same : (look other : Look) (txns : List Txn) → All IsRunnable txns → Agree txns look other → replies look txns ≡ replies other txns
 replies_same look other [] well same = refl
 replies_same look other (t ∷ txns) well same =
-    let next = agree_after look other t txns (All-head IsWellFormedTxn t txns well) same in
+    let next = agree_after look other t txns (All-head IsRunnable t txns well) same in
     let here : body look t ≡ body other t =
-    same_reads look other t (usable t (All-head IsWellFormedTxn t txns well))
+    same_reads look other t (All-head IsRunnable t txns well).usable
     (λ j among. same j (or_left (declares_key j t) (list_any (declares_key j) txns) (or_left (is_among t.reads j) (is_among t.writes j) among))) in
     let rest =
-    replies_same (after look t) (after other t) txns (All-tail IsWellFormedTxn t txns well)
+    replies_same (after look t) (after other t) txns (All-tail IsRunnable t txns well)
     (λ j declared. next j (or_right (declares_key j t) (list_any (declares_key j) txns) declared)) in
     λ i. reply_of (here i) ∷ rest i
 
 -- the next batch gives the same replies on its base as on the past at the history's top
 pub next_replies : (t : Timeline) (b : Batch) → IsNext t b → replies (base_of b) (txns_of b) ≡ replies (past t t.top) (txns_of b)
-next_replies t b next = replies_same (base_of b) (past t t.top) (txns_of b) b.batched.formed next.base
+next_replies t b next = replies_same (base_of b) (past t t.top) (txns_of b) (all_runnable (txns_of b) b.batched.formed) next.base

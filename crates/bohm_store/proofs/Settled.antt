@@ -8,7 +8,7 @@ use Rattle.std.proofs.lemmas.List.Elements.{All-nil, All-weaker}
 use Rattle.bohm_types.specs.Keys.{is_among}
 use Rattle.bohm_log.specs.Parts.{name_at}
 use Rattle.bohm_types.specs.Txn.{Txn}
-use Rattle.bohm_txn.specs.Faulty.{IsWellFormedTxn}
+use Rattle.bohm_store.specs.Writes.{IsRunnable}
 use Rattle.bohm_txn.specs.Meaning.{Look}
 use Rattle.bohm_store.specs.declared.version.Version.{Version}
 use Rattle.bohm_store.specs.declared.numbered_write.NumberedWrite.{NumberedWrite}
@@ -29,7 +29,7 @@ use Rattle.bohm_store.proofs.NumberedWrites.{keyed_versions, none_past, unnamed_
 use Rattle.bohm_store.proofs.Grown.{made}
 use Rattle.bohm_store.proofs.Kept.{by_key, grown_by_key, kept_settled}
 
-module _ (names : List (List ℕ)) (base : Look) (txns : List Txn) (well : All IsWellFormedTxn txns) (some : 0 < length txns)
+module _ (names : List (List ℕ)) (base : Look) (txns : List Txn) (well : All IsRunnable txns) (some : 0 < length txns)
     (old new : Numbered) (ws : List NumberedWrite) (h : IsNumbered old) (apart : IsDistinct bytes_eq names)
     (agree : Agree txns base (past (timeline names old) old.top)) (below : AreBelow (length names) ws)
     (listed : map (named_write names) ws ≡ all_txn_writes (old.top + 1) base txns)

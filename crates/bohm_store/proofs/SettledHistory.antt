@@ -3,7 +3,7 @@ use Rattle.std.proofs.Common.{◌≡◌, ℕ, ◌+◌, ◌-◌, ◌<◌, ◌≤�
 use Rattle.std.proofs.lemmas.List.Elements.{All-weaker, All-append}
 use Rattle.bohm_types.specs.declared.cell.Cell.TheVariants.{Absent}
 use Rattle.bohm_types.specs.Txn.{Txn}
-use Rattle.bohm_txn.specs.Faulty.{IsWellFormedTxn}
+use Rattle.bohm_store.specs.Writes.{IsRunnable}
 use Rattle.bohm_txn.specs.Meaning.{Look}
 use Rattle.bohm_txn.specs.Serial.{state}
 use Rattle.bohm_store.specs.declared.version.Version.{Version}
@@ -17,7 +17,7 @@ use Rattle.bohm_store.proofs.ProducedVersions.{Rises-append, produced_from, prod
 use Rattle.bohm_store.proofs.WrittenVersions.{made_written}
 
 -- the writes give the versions that the transactions produce on any look that agrees on declared keys
-pub made_produced : (u : ℕ) (look other : Look) (txns : List Txn) (ws : List KeyedVersion) (k : List ℕ) → All IsWellFormedTxn txns
+pub made_produced : (u : ℕ) (look other : Look) (txns : List Txn) (ws : List KeyedVersion) (k : List ℕ) → All IsRunnable txns
     → Agree txns look other → ws ≡ all_txn_writes u look txns → versions_of_writes ws k ≡ produced_versions u other txns k
 made_produced u look other txns ws k well same is =
     ap (λ (xs : List KeyedVersion). versions_of_writes xs k) is ∙ made_written u look txns k well ∙ produced_same u look other txns k well same
@@ -42,7 +42,7 @@ settled_earlier top ts look txns k old new is le =
     ∙ cell_at-above ts (produced_versions (top + 1) look txns k) (cell_at ts old Absent) (produced_from ts (top + 1) look txns k (omega arith)))
 
 pub settled_later : (top ts : ℕ) (look : Look) (txns : List Txn) (k : List ℕ) (old new : List Version)
-    → new ≡ old ++ produced_versions (top + 1) look txns k → UpTo top old → look k ≡ cell_at top old Absent → All IsWellFormedTxn txns
+    → new ≡ old ++ produced_versions (top + 1) look txns k → UpTo top old → look k ≡ cell_at top old Absent → All IsRunnable txns
     → top ≤ ts → ts ≤ top + length txns → cell_at ts new Absent ≡ state look txns (ts - top) k
 settled_later top ts look txns k old new is low at well from to =
     let here : cell_at ts old Absent ≡ look k = cell_at-up_to top ts old Absent low from ∙ sym at in

@@ -10,12 +10,11 @@ use Rattle.std.proofs.lemmas.List.Elements.{All-head, All-tail}
 use Rattle.bohm_types.specs.declared.cell.Cell.{Cell}
 use Rattle.bohm_types.specs.Txn.{Txn}
 use Rattle.bohm_types.specs.Keys.{is_among}
-use Rattle.bohm_txn.specs.Faulty.{IsWellFormedTxn}
+use Rattle.bohm_store.specs.Writes.{IsRunnable}
 use Rattle.bohm_txn.specs.Meaning.{Look}
 use Rattle.bohm_txn.specs.Serial.{after, state}
-use Rattle.bohm_txn.proofs.ForCallers.{drop_at, next, rising_writes}
+use Rattle.bohm_txn.proofs.ForCallers.{drop_at, next}
 use Rattle.bohm_place.specs.Shares.{AreDistinct}
-use Rattle.bohm_place.proofs.ForCallers.{AreDistinct-rising}
 use Rattle.bohm_store.specs.Versions.{KeyedVersion}
 use Rattle.bohm_store.specs.Versions.{produced_versions}
 use Rattle.bohm_store.specs.Chains.{versions_of_writes, Climb}
@@ -53,16 +52,15 @@ made_once u look (j ∷ ks) k d = made_once_by u look j ks k (bytes_eq j k) refl
         rw (e, others) (ap (λ (x : List ℕ). record { begin = u; cell = look x } ∷ []) same)
     made_once_by u look j ks k false e none more = rw e more
 
-pub made_written : (u : ℕ) (look : Look) (txns : List Txn) (k : List ℕ) → All IsWellFormedTxn txns
+pub made_written : (u : ℕ) (look : Look) (txns : List Txn) (k : List ℕ) → All IsRunnable txns
     → versions_of_writes (all_txn_writes u look txns) k ≡ produced_versions u look txns k
 made_written u look [] k well = refl
 made_written u look (t ∷ txns) k well =
     made-append (txn_writes u (after look t) t.writes) (all_txn_writes (u + 1) (after look t) txns) k
     ∙ rw (
-      made_once u (after look t) t.writes k
-          (AreDistinct-rising t.writes (rising_writes t (All-head IsWellFormedTxn t txns well))),
+      made_once u (after look t) t.writes k ((All-head IsRunnable t txns well).apart),
       made_written (u + 1) (after look t) txns k
-          (All-tail IsWellFormedTxn t txns well),
+          (All-tail IsRunnable t txns well),
     ) refl
 
 climb_behind : (n u top : ℕ) (look : Look) (ks : List (List ℕ)) (ws : List KeyedVersion) → n ≤ u → u ≤ top

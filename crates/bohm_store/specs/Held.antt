@@ -1,6 +1,5 @@
 -- The newest version of each key, by its number.
 use Rattle.std.specs.Prelude.{ℕ, List, [], ◌∷◌, slice_index_or}
-use Rattle.bohm_types.specs.declared.cell.Cell.{Cell}
 use Rattle.bohm_types.specs.declared.cell.Cell.TheVariants as cells
 use Rattle.bohm_store.specs.declared.version.Version.{Version}
 use Rattle.bohm_hints.specs.declared.held.Held.{Held}

@@ -5,3 +5,4 @@ pub mod Numbered
 pub mod Places
 pub mod Writes
 pub mod Nexts
+pub mod Runs

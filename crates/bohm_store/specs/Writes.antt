@@ -4,10 +4,11 @@ use Rattle.std.specs.Prelude.{All, Some, slice_index, slice_index_or, if◌then�
 use Rattle.std.specs.Map.{keys_of}
 use Rattle.bohm_types.specs.declared.cell.Cell.{Cell}
 use Rattle.bohm_types.specs.Txn.{Txn}
-use Rattle.bohm_txn.specs.Faulty.{IsWellFormedTxn}
+use Rattle.bohm_txn.specs.Declares.{IsUsable}
 use Rattle.bohm_txn.specs.Meaning.{Look}
 use Rattle.bohm_txn.specs.Serial.{after, state}
 use Rattle.bohm_log.specs.Parts.{name_at}
+use Rattle.bohm_place.specs.Shares.{AreDistinct}
 use Rattle.bohm_board.specs.declared.batch.Batch.{Batch}
 use Rattle.bohm_board.specs.Batches.{base_of, first_of, txn_at, txns_of}
 use Rattle.bohm_store.specs.declared.version.Version.{Version}
@@ -75,11 +76,16 @@ pub record AreTxnWrites (names : List (List ℕ)) (u : ℕ) (look : Look) (t : T
   pub below : AreBelow (length names) ws
   pub listed : map (named_write names) ws ≡ txn_writes u (after look t) t.writes
 
+-- the transaction is within the limits, reads and writes declared keys alone, and declares each write once, in any order
+pub record IsRunnable (t : Txn) : Type 0 where
+  pub usable : IsUsable t
+  pub apart : AreDistinct t.writes
+
 -- under these names they are the writes of this many transactions after the top of a history, in log order
 pub record AreWritesBehind (names : List (List ℕ)) (t : Timeline) (count : ℕ) (txns : List Txn) (ws : List NumberedWrite) : Type 0 where
   pub many : length txns ≡ count
   pub some : 0 < count
-  pub formed : All IsWellFormedTxn txns
+  pub formed : All IsRunnable txns
   pub base : Look
   pub agree : Agree txns base (past t t.top)
   pub below : AreBelow (length names) ws

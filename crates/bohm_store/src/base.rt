@@ -31,9 +31,9 @@ pub fn cell_of(
     }
 }
 
-// The cell of a key at the top. The key is hashed only if the number that it had when it was last
-// seen isn't its number.
-fn cell_by(
+/// The cell of a key at the top. The key is hashed only if the number that it had when it was last
+/// seen isn't its number.
+pub fn cell_by(
     names: &LayeredNames<HashSeed>,
     numbered: &NumberedHistory,
     hints: &mut IndexHints,

@@ -10,7 +10,9 @@ ghost use Rattle.bohm_store.specs.Versions.{most_counted, past, total, versions}
 ghost use Rattle.bohm_store.specs.Chains.{starting_versions};
 
 mod advance;
+mod calls;
 mod next_batch;
+mod produce;
 mod reads;
 mod rewind;
 mod settle;
@@ -73,6 +75,7 @@ impl History {
         ensures versions { IfOk result
             (λ h. (k : List ℕ)
             → versions h k ≡ starting_versions (cell_in (store_of entries.now) k)) }
+        ensures names { IfOk result (λ h. keys_of h.chains ≡ names_of entries.now) }
         ensures count { IfOk result (λ h. total h.chains ≡ length entries.now) }
         ensures past { IfOk result (λ h. past h 0 ≡ cell_in (store_of entries.now)) }
     {
@@ -91,6 +94,7 @@ impl History {
         ensures versions { IfOk result
             (λ h. (k : List ℕ)
             → versions h k ≡ starting_versions (cell_in (store_of entries.now) k)) }
+        ensures names { IfOk result (λ h. keys_of h.chains ≡ names_of entries.now) }
         ensures count { IfOk result (λ h. total h.chains ≡ length entries.now) }
         ensures past { IfOk result (λ h. past h 0 ≡ cell_in (store_of entries.now)) }
     {
@@ -108,6 +112,7 @@ impl History {
         ensures versions { IfOk result
             (λ h. (k : List ℕ)
             → versions h k ≡ starting_versions (cell_in (store_of entries.now) k)) }
+        ensures names { IfOk result (λ h. keys_of h.chains ≡ names_of entries.now) }
         ensures count { IfOk result (λ h. total h.chains ≡ length entries.now) }
         ensures past { IfOk result (λ h. past h ts ≡ cell_in (store_of entries.now)) }
     {
@@ -129,6 +134,7 @@ impl History {
         ensures versions { IfOk result
             (λ h. (k : List ℕ)
             → versions h k ≡ starting_versions (cell_in (store_of entries.now) k)) }
+        ensures names { IfOk result (λ h. keys_of h.chains ≡ names_of entries.now) }
         ensures count { IfOk result (λ h. total h.chains ≡ length entries.now) }
         ensures past { IfOk result (λ h. past h ts ≡ cell_in (store_of entries.now)) }
     {
@@ -159,6 +165,7 @@ impl History {
         ensures versions { IfOk result
             (λ h. (k : List ℕ)
             → versions h k ≡ starting_versions (cell_in (store_of entries.now) k)) }
+        ensures names { IfOk result (λ h. keys_of h.chains ≡ names_of entries.now) }
         ensures count { IfOk result (λ h. total h.chains ≡ length entries.now) }
         ensures past { IfOk result (λ h. past h ts ≡ cell_in (store_of entries.now)) }
     {

@@ -2,6 +2,7 @@
 #![tactic(auto)]
 
 mod base;
+mod call_keys;
 mod declared;
 mod fault;
 mod held;

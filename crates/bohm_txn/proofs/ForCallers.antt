@@ -36,3 +36,9 @@ pub use Rattle.bohm_txn.proofs.FirstLaw.{not_true}
 -- comparisons of consecutive keys
 pub use Rattle.bohm_txn.proofs.Checking.{falls, climbs}
 pub use Rattle.bohm_txn.proofs.Rises.{below}
+-- the index of a key in a list without duplicates, and a total with one more term
+pub use Rattle.bohm_txn.proofs.Places.{only_place}
+pub use Rattle.bohm_txn.proofs.Totals.{total_step}
+-- how a run over tables of cells ends
+pub use Rattle.bohm_txn.proofs.Tracking.{EndAlike, IsCommit, ends_alike, committed, aborted}
+pub use Rattle.bohm_txn.proofs.Answering.{commit_cells}

@@ -7,16 +7,16 @@ ghost use Rattle.std.specs.List.{find};
 ghost use Rattle.std.specs.Str.{bytes_eq};
 ghost use Rattle.bohm_types.specs.Keys.{rising};
 ghost use Rattle.bohm_log.specs.Parts.{KeyIn, TermIn, key_at, term_of, sum_between};
-ghost use Rattle.bohm_txn.specs.Meaning.{newest, is_present, number_in, atom_value, total_from};
-ghost use Rattle.bohm_txn.specs.Meaning.{sum_value, compares, cond_value, signed};
+ghost use Rattle.bohm_txn.specs.Meaning.{newest, is_present, atom_value, total_from};
+ghost use Rattle.bohm_txn.specs.Meaning.{sum_value, cond_value, signed};
 ghost use Rattle.bohm_txn.specs.Tables.{cell_at};
 ghost use lib.IntN.{neg_ℤ};
 ghost use Rattle.bohm_types.specs.Limits.{most_keys, most_terms};
 
+use crate::numbers::{SHORT, compares, number_in, number_or_least, signed};
 use crate::outcome::Reason;
 use bohm_log::{AtomKind, IndexedTxn, TermRow};
 use bohm_types::{Cell, Cmp, Key, Value};
-use std::cmp::Ordering;
 
 /// What a statement sees: its transaction's terms, the cells of the declared reads, and the locals.
 #[derive(Clone, Copy)]
@@ -44,59 +44,6 @@ fn local_among(locals: &[(Key, Value)], name: &Key) -> Value
     match last_bound(locals, name) {
         Some(local) => local.1,
         None => Value::from(0),
-    }
-}
-
-/// The total of sixteen numbers that are no greater than this one, and no less than its negative,
-/// fits in 64 bits.
-const SHORT: i64 = 1 << 58;
-
-fn compares(cmp: Cmp, ordering: Ordering) -> bool
-    ensures { result ≡ compares cmp ordering }
-{
-    match cmp {
-        Cmp::Lt => ordering.is_lt(),
-        Cmp::Le => ordering.is_le(),
-        Cmp::Eq => ordering.is_eq(),
-        Cmp::Ge => ordering.is_ge(),
-        Cmp::Gt => ordering.is_gt(),
-    }
-}
-
-fn number_in(cell: Cell) -> Option<i128>
-    ensures value { result ≡ number_in cell }
-    ensures low { IfSome result (λ z. neg_ℤ (pos (2 ^ 64)) ≤ℤ z) }
-    ensures high { IfSome result (λ z. z ≤ℤ pos (2 ^ 64)) }
-{
-    match cell {
-        Cell::Absent => None,
-        Cell::Present(value) => Some(i128::from(value.get())),
-    }
-}
-
-/// The number in a cell, or the least 64-bit number if there is none.
-#[inline(always)]
-fn number_or_least(cell: Cell) -> i64
-    ensures { neg_ℤ (pos (2 ^ 58)) ≤ℤ result → number_in cell ≡ Some result }
-{
-    match cell {
-        Cell::Absent => i64::MIN,
-        Cell::Present(value) => value.get(),
-    }
-}
-
-#[inline(always)]
-fn signed(total: i64, minus: bool, number: i64) -> i64
-    requires low { (neg_ℤ (pos (2 ^ 62)) ≤ℤ total) × (neg_ℤ (pos (2 ^ 58)) ≤ℤ number) }
-    requires high { (total ≤ℤ pos (2 ^ 62)) × (number ≤ℤ pos (2 ^ 58)) }
-    ensures value { result ≡ signed total minus number }
-    ensures low { (neg_ℤ (pos (2 ^ 58)) +ℤ total) ≤ℤ result }
-    ensures high { result ≤ℤ (total +ℤ pos (2 ^ 58)) }
-{
-    if minus {
-        total - number
-    } else {
-        total + number
     }
 }
 

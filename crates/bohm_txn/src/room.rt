@@ -24,6 +24,7 @@ impl<T> Model for Room<T> {
 }
 
 impl<T> Room<T> {
+    /// An empty list for at most this many values.
     pub fn new(alloc: Global, limit: usize) -> Result<Room<T>, AllocError>
         ensures { IfOk result (λ room. room ≡ ([], limit)) }
     {
@@ -31,6 +32,7 @@ impl<T> Room<T> {
         Ok(Room { values, limit })
     }
 
+    /// Appends a value.
     pub fn push(&mut self, value: T)
         requires { length self.old.0 < self.old.1 }
         ensures { self.new ≡ (self.old.0 ++ value ∷ [], self.old.1) }
@@ -38,6 +40,7 @@ impl<T> Room<T> {
         self.values.push_reserved(value);
     }
 
+    /// Replaces the value at an index.
     pub fn set(&mut self, index: usize, value: T)
     where
         T: Drop,
@@ -47,6 +50,7 @@ impl<T> Room<T> {
         self.values[index] = value;
     }
 
+    /// Removes all values.
     pub fn clear(&mut self)
     where
         T: Drop,
@@ -68,6 +72,7 @@ impl<T> Room<T> {
         }
     }
 
+    /// Its values.
     pub fn as_slice(&self) -> &[T]
         ensures { result.now ≡ self.now.0 }
     {

@@ -47,8 +47,8 @@ impl Drop for Work {
     }
 }
 
-/// Fails unless it holds.
-fn need(holds: bool) -> Result<(), Reason>
+/// Fails with `Need` unless it holds.
+pub fn need(holds: bool) -> Result<(), Reason>
     ensures { MatchResult result (λ _. holds ≡ true)
         (λ reason. (holds ≡ false) × (reason ≡ reasons.Need)) }
 {

@@ -1,6 +1,6 @@
-//! The calls of a board. None blocks, and only `open` allocates.
+//! The calls of a board. None blocks, and only `open` and `try_open` allocate.
 
-ghost use Rattle.std.specs.Prelude.{◌≡◌, ◌+◌, ◌≤◌, ℕ, length, IfOk, IsNone, IfSome};
+ghost use Rattle.std.specs.Prelude.{◌≡◌, ◌+◌, ◌≤◌, ℕ, [], length, IfOk, IfErr, IsNone, IfSome};
 ghost use Rattle.bohm_board.specs.Batches.{rights_of, txns_of, IsIn, IsSlot, IsRightCell, IsRightOutcome};
 ghost use Rattle.bohm_board.specs.Closings.{IsFinished, IsUntaken, HasCell, IsLeft};
 ghost use Rattle.bohm_board.specs.Closings.{batch_of_closed, unfinished_in};
@@ -12,17 +12,19 @@ ghost use Rattle.bohm_board.specs.Views.{new_view, after_status, after_claim};
 ghost use Rattle.bohm_board.specs.Views.{after_split, after_join};
 ghost use Rattle.bohm_board.specs.Views.{after_look, after_fill, after_finish, Recalls, IsUnseen};
 ghost use Rattle.bohm_board.specs.Encoding.{status_of_claim};
+ghost use Rattle.bohm_board.specs.Shown.{IsSized, words_of};
 
 use crate::batch::Batch;
-use crate::board::Board;
 use crate::board::step_kinds::{Share, Unite};
+use crate::board::{Board, Words};
 use crate::closed::{Closed, copy_words};
 use crate::columns::Columns;
 use crate::encoding::{present_cell, status_of_word};
+use crate::knowledge::View;
 use crate::pass::Pass;
 use crate::slot::Slot;
 use crate::status::{Claimed, Status};
-use atomic_table::Table;
+use atomic_table::{Seat, Table};
 use bohm_txn::Outcome;
 use bohm_types::{Cell, NoMemory};
 use std::alloc::Global;
@@ -36,11 +38,23 @@ impl<'a> Board<'a> {
         ensures own { IfOk result (λ b. IsPassOf b.0 b.1) }
         ensures view { IfOk result (λ b. view b.1 ≡ new_view (rights_of batch.entry)) }
     {
-        let positions = batch.len() as usize;
-        let slots = batch.slots();
-        let columns = Columns::new(alloc, positions, slots)?;
-        let words = Vec::from_elem(alloc, 0u64, positions + 2 * slots)?;
-        let (table, seat) = Table::of_words(alloc, words.as_slice(), &batch)?;
+        match Board::try_open(alloc, batch) {
+            Ok(opened) => Ok(opened),
+            Err(_) => Err(NoMemory),
+        }
+    }
+
+    /// Opens a board as `open` does, but if an allocation fails, it returns the batch.
+    pub fn try_open(alloc: Global, batch: Batch<'a>) -> Result<(Board<'a>, Pass), Batch<'a>>
+        ensures batch { IfOk result (λ b. batch_of b.0 ≡ batch.entry) }
+        ensures own { IfOk result (λ b. IsPassOf b.0 b.1) }
+        ensures view { IfOk result (λ b. view b.1 ≡ new_view (rights_of batch.entry)) }
+        ensures refused { IfErr result (λ b. b ≡ batch.entry) }
+    {
+        let (table, seat, columns) = match Board::lay(alloc, &batch) {
+            Ok(laid) => laid,
+            Err(_) => return Err(batch),
+        };
         let pass = Pass {
             seat,
             first: batch.first(),
@@ -52,6 +66,41 @@ impl<'a> Board<'a> {
             columns,
         };
         Ok((board, pass))
+    }
+
+    // The words of a board for this batch, and memory for them once it is closed.
+    fn lay(
+        alloc: Global,
+        batch: &Batch<'a>,
+    ) -> Result<(Words<'a>, Seat<(), View>, Columns), NoMemory>
+        ensures keyed { IfOk result (λ l. l.0.shared.key ≡ batch.now) }
+        ensures sized { let slots = length (rights_of batch.now).slots in IfOk result
+            (λ l. l.0.shared.table_id.words ≡ length (rights_of batch.now).outcomes + (slots + slots)) }
+        ensures bare { IfOk result (λ l. l.0.shared.table_id.slots ≡ 0) }
+        ensures room { IfOk result (λ l. IsSized (rights_of batch.now) (words_of l.2)) }
+        ensures seat { IfOk result (λ l. l.1.table_id ≡ l.0.shared.table_id) }
+        ensures view { IfOk result (λ l. l.1.me ≡ (new_view (rights_of batch.now), [])) }
+    {
+        let positions = batch.len() as usize;
+        let slots = batch.slots();
+        let columns = Columns::new(alloc, positions, slots)?;
+        let words = Vec::from_elem(alloc, 0u64, positions + 2 * slots)?;
+        let (table, seat) = Table::of_words(alloc, words.as_slice(), batch)?;
+        Ok((table, seat, columns))
+    }
+
+    /// The batch of a board that is given up. No pass of it can step any more.
+    pub fn into_batch(self) -> Batch<'a>
+        ensures { result ≡ batch_of self.entry }
+    {
+        let Board {
+            table,
+            batch,
+            columns,
+        } = self;
+        drop(table);
+        drop(columns);
+        batch
     }
 
     pub fn batch(&self) -> &Batch<'a>

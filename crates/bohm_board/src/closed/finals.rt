@@ -21,6 +21,15 @@ impl<'a> Closed<'a> {
         &self.batch
     }
 
+    /// The batch, without its results.
+    pub fn into_batch(self) -> Batch<'a>
+        ensures { result ≡ batch_of_closed self.entry }
+    {
+        let Closed { batch, columns } = self;
+        drop(columns);
+        batch
+    }
+
     /// The outcome of the position with the timestamp `t`, if it has one.
     pub fn outcome(&self, t: u32) -> Option<Outcome>
         requires { IsIn (batch_of_closed self.now) t }

@@ -14,11 +14,10 @@ use crate::base::{push_cells, push_reads, push_reads_and_cells};
 use crate::history::History;
 use crate::numbering::number_all;
 use crate::workspace::Workspace;
-use crate::writes::Writes;
 use bohm_hints::IndexHints;
 use bohm_log::{Keys, TxnView};
 use bohm_txn::{Outcome, Scratch, eval_in_place};
-use bohm_types::{Cell, NoMemory};
+use bohm_types::NoMemory;
 
 impl History {
     /// Runs the transaction that follows the top on the cells that its keys have at the top. It
@@ -50,7 +49,7 @@ impl History {
         let numbers = workspace.numbers.as_slice();
         let outcome = self.evaluate(txn, hints, numbers, scratch);
         let floor = (self.top() + 1).saturating_sub(keep);
-        self.add_versions(txn, numbers, scratch.cells(), floor)?;
+        self.add_versions(numbers, scratch.cells(), floor)?;
         Ok(outcome)
     }
 
@@ -123,30 +122,5 @@ impl History {
             Outcome::Abort { .. } => push_cells(&self.numbered, numbers, scratch),
         }
         outcome
-    }
-
-    // Adds the versions of the transaction that follows the top, and trims at a floor.
-    fn add_versions(
-        &mut self,
-        txn: &TxnView<'_>,
-        numbers: &[u32],
-        cells: &[Cell],
-        floor: u32,
-    ) -> Result<(), NoMemory>
-        requires well { IsWellFormedTxn txn.now }
-        requires timestamp { self.old.top + 1 < 2 ^ 32 }
-        requires floor { floor ≤ self.old.top + 1 }
-        requires numbers { AreNumbersOf (keys_of self.old.chains) numbers.now txn.now.writes }
-        requires cells { map (after (past self.old self.old.top) txn.now) txn.now.writes
-            ≡ cells.now }
-        ensures err { OnErr result (IsSame self.old self.new) }
-        ensures ok { OnOk result (IsSettledKept self.old self.new (txn.now ∷ []) floor) }
-    {
-        self.numbered.cover(self.names.len())?;
-        let begin = self.numbered.top() + 1;
-        let writes = Writes::Begun(begin, numbers, cells);
-        self.numbered
-            .add_above(self.names.table(), 1, writes, floor)?;
-        Ok(())
     }
 }

@@ -3,14 +3,14 @@ use Rattle.std.specs.List.{slice_get}
 use Rattle.std.specs.Option.{option_map}
 use Rattle.std.proofs.lemmas.List.{length-map}
 use Rattle.std.proofs.lemmas.Option.{same_Some, slice_get_read, slice_get_within}
-use Rattle.bohm_types.specs.declared.cell.Cell.TheVariants.{Absent}
 use Rattle.bohm_place.specs.declared.access.Access.{Access}
 use Rattle.bohm_place.specs.declared.access.Source.TheVariants.{Before}
 use Rattle.bohm_board.specs.declared.base.Base.{Base}
 use Rattle.bohm_board.specs.Bases.{cells_of, keys_of}
 use Rattle.bohm_board.specs.Batches.{key_in}
 use Rattle.bohm_board.proofs.BasePlaces.{placed}
-use Rattle.bohm_board.proofs.EntrySearch.{Entry, newest_there}
+use Rattle.bohm_board.proofs.DeclaredPlaces.{steady_there}
+use Rattle.bohm_board.proofs.EntrySearch.{Entry}
 use Rattle.bohm_board.proofs.SlotNumbers.{txn_there}
 use Rattle.bohm_board.proofs.WantedSources.{keys_paired}
 use Rattle.bohm_board.proofs.batch.Batch.cell_before.Goals as goal
@@ -52,7 +52,7 @@ returns-in-Listed c =
     (slice_get_read xs (length xs) i x refl (inside here) c.index-as_slice-access.is) in
     ap (option_map (cells_of b.base)) named ∙ ap (λ z. Some z)
     (ap (λ (base : Base). cells_of base k) c.in-Listed.is
-    ∙ newest_there entries i k Absent x (b.based entries c.in-Listed.is).0.apart entry at ∙ ap (λ (e : Entry). e.1) c.index-as_slice-access.is)
+    ∙ steady_there entries i k x (b.based entries c.in-Listed.is).0 entry at ∙ ap (λ (e : Entry). e.1) c.index-as_slice-access.is)
 
 within : (c : Start) → c.args.index < length c.args.keys.now
 within c =

@@ -1,9 +1,12 @@
 use Rattle.std.proofs.Common.{◌∙◌, List, ℕ, ap, arith}
 use Rattle.std.proofs.lemmas.List.{length-map}
 use Rattle.std.specs.Prelude.{ℤ}
+use Rattle.bohm_types.specs.Keys.{names_of}
 use Rattle.bohm_types.specs.declared.cell.Cell.TheVariants.{Absent}
 use Rattle.bohm_txn.specs.Stores.{cell_in, store_of}
+use Rattle.bohm_store.specs.Numbered.{versions_at}
 use Rattle.bohm_store.specs.Versions.{cell_at}
+use Rattle.bohm_store.proofs.Entries.{keys_named}
 use Rattle.bohm_store.proofs.Opened.{started_past}
 use Rattle.bohm_store.proofs.history.History.stand.Goals as goal
 
@@ -23,3 +26,6 @@ returns-clause-past c =
 
 pub returns-clause-count : goal.returns-clause-count
 returns-clause-count c = rw c.requires.names c.in_ok-numbered.ensures.count
+
+pub returns-clause-names : goal.returns-clause-names
+returns-clause-names c = rw c.requires.names (keys_named (versions_at c.in_ok-numbered.numbered) 0 (names_of c.args.entries.now))

@@ -2,17 +2,17 @@ use Rattle.std.proofs.Common.{rules, arith, ap, length, sym, ◌∙◌}
 use Rattle.bohm_board.specs.Batches.{rights_of}
 use Rattle.bohm_board.proofs.Refinement.{opens, blank_line}
 use Rattle.bohm_board.proofs.SlotPlaces.{outcomes_long}
-use Rattle.bohm_board.proofs.board.Board.open.Goals as goal
+use Rattle.bohm_board.proofs.board.Board.lay.Goals as goal
 
 pub of_words-requires : goal.of_words-requires
 of_words-requires c =
-    let positions = outcomes_long c.args.batch in
+    let positions = outcomes_long c.args.batch.now in
     opens _ _ (c.as_slice.ensures.value ∙ (c.in_ok-words.ensures.items_if_clones_equal (search rules)
-    ∙ blank_line (rights_of c.args.batch) _ (omega (arith, positions, c.len-positions.ensures, c.slots-slots.ensures.slots))))
+    ∙ blank_line (rights_of c.args.batch.now) _ (omega (arith, positions, c.len-positions.ensures, c.slots-slots.ensures.slots))))
 
-pub invariant_of-board-clause-room : goal.invariant_of-board-clause-room
-invariant_of-board-clause-room c =
-    let positions = c.len-positions.ensures ∙ sym (outcomes_long c.args.batch) in
+pub returns-clause-room : goal.returns-clause-room
+returns-clause-room c =
+    let positions = c.len-positions.ensures ∙ sym (outcomes_long c.args.batch.now) in
     let slots = c.slots-slots.ensures.slots in
     record {
       statuses = c.in_ok-columns.ensures.statuses ∙ positions;
@@ -20,15 +20,15 @@ invariant_of-board-clause-room c =
       values = c.in_ok-columns.ensures.values ∙ slots;
     }
 
-pub invariant_of-board-clause-sized : goal.invariant_of-board-clause-sized
-invariant_of-board-clause-sized c =
+pub returns-clause-sized : goal.returns-clause-sized
+returns-clause-sized c =
     omega (
       arith,
       c.in_ok-table.ensures.0,
       ap length c.as_slice.ensures.value,
       c.in_ok-words.ensures.len,
       c.in_ok-words.words.ok.0,
-      outcomes_long c.args.batch,
+      outcomes_long c.args.batch.now,
       c.len-positions.ensures,
       c.slots-slots.ensures.slots,
     )

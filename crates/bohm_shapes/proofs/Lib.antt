@@ -1,0 +1,6 @@
+mod Terms
+mod LetLaw
+mod RunLaw
+mod Slots
+mod CallLaw
+pub mod ForCallers
