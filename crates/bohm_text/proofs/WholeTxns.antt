@@ -2,7 +2,8 @@
 use Rattle.std.proofs.Common.{◌≡◌, ℕ, ◌+◌, ◌-◌, ◌<◌, ◌≤◌, Bool, true, false, List, [], ◌∷◌, ◌++◌, map, length, take, drop, Some, None}
 use Rattle.std.proofs.Common.{refl, ap, sym, subst, ◌∙◌, arith}
 use Rattle.std.proofs.Common.{append_assoc, length-append}
-use Rattle.std.specs.Prelude.{codes, if◌then◌else◌}
+use Rattle.std.proofs.Math.Seq.{drop-append_seam}
+use Rattle.std.specs.Prelude.{Option, codes, if◌then◌else◌}
 use Rattle.std.specs.Option.{option_map}
 use Rattle.std.specs.List.{flat_map, AllByRecursion}
 use Rattle.std.proofs.lemmas.Grind.{flat_map-append}
@@ -19,31 +20,31 @@ use Rattle.bohm_log.specs.Drafting.{Drafted, IsBare, IsBetween, fresh, need_of, 
 use Rattle.bohm_text.specs.Cut.{split, whole_lines}
 use Rattle.bohm_text.specs.Print.{Words, atom_word, cmp_word, cond_words, first_word, further_words, guard_words, line_text, lines_text, spaced, stmt_words}
 use Rattle.bohm_text.specs.Print.{sum_words, text_of, txn_lines}
-use Rattle.bohm_text.specs.Reading.{further_of, first_of, stmt_of}
+use Rattle.bohm_text.specs.Reading.{◌>>=◌, further_of, stmt_of}
 use Rattle.bohm_text.specs.Step.{Progress, Between, progress_at, step, steps}
 use Rattle.bohm_text.specs.declared.reader.Place.{Place}
 use Rattle.bohm_text.specs.declared.reader.Place.TheVariants as places
 use Rattle.bohm_text.specs.Windows.{segment, with_log}
 use Rattle.bohm_text.specs.Taking.{with_cond, with_one, with_terms}
 use Rattle.bohm_text.specs.Transactions.{AssignedRead, FirstRead, TermRead, SumRead, CondRead, StmtRead, StmtsRead, BodyRead, declared}
-use Rattle.bohm_text.specs.Transactions.{further_sign}
+use Rattle.bohm_text.specs.Transactions.{further_sign, word_sign}
 use Rattle.bohm_text.specs.Pieces.{PieceRead}
 use Rattle.bohm_text.proofs.Cutting.{IsWithout}
 use Rattle.bohm_text.proofs.Printed.{spaced_append, lines_append}
 use Rattle.bohm_text.proofs.StepAgain.{txn_steps}
-use Rattle.bohm_text.proofs.Stepping.{IsReadTo, length-le-text_of, read_lines}
+use Rattle.bohm_text.proofs.Stepping.{IsReadTo, length-le-text_of, lines-append, read_lines}
 use Rattle.bohm_text.proofs.StepTakes.{split_takes}
 use Rattle.bohm_text.proofs.Takes.{stmt_takes}
 use Rattle.bohm_text.proofs.TermLoops.{took}
 use Rattle.bohm_text.proofs.TextLaws.{lines_lack}
 use Rattle.bohm_text.proofs.WindowLaws.{text_lines_on}
-use Rattle.bohm_text.proofs.WordTakes.{further_takes, first_takes, key_takes, map_some}
+use Rattle.bohm_text.proofs.WordTakes.{further_takes, key_takes, map_some}
 
 -- the text behind its first n bytes, as a slice
 abbrev pub behind : ℕ → List ℕ → List ℕ
 behind n text = take (length text - n) (drop n text)
 
-behind_drop : (n : ℕ) (text : List ℕ) → behind n text ≡ drop n text
+pub behind_drop : (n : ℕ) (text : List ℕ) → behind n text ≡ drop n text
 behind_drop n text = take_all (length text - n) (drop n text) (omega (arith, length-drop n text))
 
 -- a text's first word and the rest
@@ -54,6 +55,15 @@ parted n text word first =
 -- after a space and a word less is left
 pub shorter : (n : ℕ) (rest front : List ℕ) → rest ≡ 32 ∷ front → length (behind n front) < length rest
 shorter n rest front e = omega (arith, ap length e, ap length (behind_drop n front), length-drop n front)
+
+-- a text's end
+pub end_of_text : (text front rest : List ℕ) → text ≡ front ++ rest → drop (length text - length rest) text ≡ rest
+end_of_text text front rest e =
+    let n : length text - length rest ≡ length front = omega (arith, ap length e, length-append front rest) in
+    ap (λ (t : List ℕ). drop (length text - length rest) t) e ∙ ap (λ (m : ℕ). drop m (front ++ rest)) n ∙ drop-append_seam front rest
+
+pub end_within : (text front rest : List ℕ) → text ≡ front ++ rest → length rest ≤ length text
+end_within text front rest e = omega (arith, ap length e, length-append front rest)
 
 -- ---- keys
 
@@ -108,12 +118,15 @@ written_made d now e reads word added made =
 
 -- ---- sums
 
--- the first term, read by its word
-pub first_read : (text word others : List ℕ) (before now : Drafted) → text ≡ word ++ others → option_map (with_one before) (first_of word) ≡ Some now
-    → FirstRead text others before now
-first_read text word others before now bytes read =
-    let it = took before now (first_of word) read in
-    record { term = it.0; added = it.2; bytes = bytes ∙ ap (λ (w : List ℕ). w ++ others) (first_takes word it.0 it.1) }
+-- a first term, read after its sign
+pub signed_read : (minus : Bool) (text atom rest : List ℕ) (before now : Drafted) → text ≡ word_sign minus ++ atom → TermRead minus atom rest before now
+    → FirstRead text rest before now
+signed_read minus text atom rest before now sign read = record {
+  term = read.term;
+  added = read.added;
+  bytes = sign ∙ ap (λ (a : List ℕ). word_sign minus ++ a) read.bytes ∙ sym (append_assoc (word_sign minus) (atom_word read.term.1) rest)
+      ∙ ap (λ (m : Bool). (word_sign m ++ atom_word read.term.1) ++ rest) (sym read.sign);
+}
 
 -- a further term, read by its word
 pub term_read : (minus : Bool) (text word others : List ℕ) (before now : Drafted) → text ≡ word ++ others
@@ -131,6 +144,20 @@ sum_begun text first rest before now space read = record {
   added = read.added;
   bytes = space ∙ ap (λ (r : List ℕ). 32 ∷ r) (read.bytes ∙ ap (λ (w : List ℕ). w ++ rest) (sym (append-nil (first_word read.term))));
 }
+
+-- the rest of a text behind a sum, by the sum's length
+pub sum_behind : (text rest : List ℕ) (before now : Drafted) → SumRead text rest before now
+    → SumRead text (drop (length text - length rest) text) before now
+sum_behind text rest before now read =
+    subst (λ (r : List ℕ). SumRead text r before now)
+    (sym (end_of_text text (spaced (sum_words (read.first ∷ read.others))) rest read.bytes)) read
+
+pub sum_within : (text rest : List ℕ) (before now : Drafted) → SumRead text rest before now → length rest ≤ length text
+sum_within text rest before now read = end_within text (spaced (sum_words (read.first ∷ read.others))) rest read.bytes
+
+pub sum_sliced : (size : ℕ) (text : List ℕ) (before now : Drafted) → SumRead text (drop size text) before now
+    → SumRead text (behind size text) before now
+sum_sliced size text before now read = subst (λ (r : List ℕ). SumRead text r before now) (sym (behind_drop size text)) read
 
 further_text : (t : Bool × Atom) → spaced (further_words t) ≡ further_sign t.0 ++ atom_word t.1
 further_text t = elim (t.0) as (λ (m : Bool). spaced ((if m then codes "-" else codes "+") ∷ atom_word t.1 ∷ []) ≡ further_sign m ++ atom_word t.1) [
@@ -355,6 +382,19 @@ pub piece_more : (start : Progress) (whole text rest : List ℕ) (so_far count :
     → PieceRead text rest count p q → IsReadTo step start whole (so_far + count) rest q
 piece_more start whole text rest so_far count p q before read =
     subst (λ (n : ℕ). IsReadTo step start whole (so_far + n) rest q) read.counted (read_lines before read.piece rest read.lines read.bytes q read.read)
+
+-- two pieces, one after the other, are a piece
+pub pieces_joined : (text mid rest : List ℕ) (a b : ℕ) (p q r : Progress) → PieceRead text mid a p q → PieceRead mid rest b q r
+    → PieceRead text rest (a + b) p r
+pieces_joined text mid rest a b p q r one two = record {
+  piece = one.piece ++ two.piece;
+  counted = omega (arith, length-append one.piece two.piece, one.counted, two.counted);
+  some = omega (arith, one.some);
+  lines = one.lines ∙ ap (λ (ls : List (List ℕ)). one.piece ++ ls) two.lines ∙ sym (append_assoc one.piece two.piece (whole_lines rest));
+  bytes = one.bytes ∙ ap (λ (t : List ℕ). text_of one.piece ++ t) two.bytes ∙ sym (append_assoc (text_of one.piece) (text_of two.piece) rest)
+      ∙ ap (λ (t : List ℕ). t ++ rest) (sym (flat_map-append (λ (line : List ℕ). line ++ 10 ∷ []) one.piece two.piece));
+  read = lines-append step p one.piece two.piece ∙ ap (λ (o : Option Progress). o >>= λ s. steps s two.piece) one.read ∙ two.read;
+}
 
 -- a line is a piece
 pub line_piece : (text line others : List ℕ) (p q : Progress) → whole_lines text ≡ line ∷ whole_lines others → text ≡ line ++ 10 ∷ others

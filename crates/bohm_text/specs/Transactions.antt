@@ -20,6 +20,10 @@ KeysRead text rest keys = text ≡ spaced keys ++ rest
 abbrev pub further_sign : Bool → List ℕ
 further_sign minus = if minus then codes " - " else codes " + "
 
+-- the sign of a sum's first term, as the beginning of its word
+abbrev pub word_sign : Bool → List ℕ
+word_sign minus = if minus then codes "-" else []
+
 -- the text begins with a sum's first term, which was added
 pub record FirstRead (text rest : List ℕ) (before now : Drafted) : Type 0 where
   pub term : Bool × Atom

@@ -19,7 +19,10 @@ mod sums;
 mod targets;
 mod terms;
 mod transactions;
+mod whole_keys;
+mod whole_sums;
 mod windows;
+mod word_ends;
 mod words;
 
 pub use answers::{

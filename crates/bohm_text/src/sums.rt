@@ -76,9 +76,9 @@ fn take_literal(draft: &mut Draft<HashSeed>, minus: bool, word: &[u8]) -> Result
     Ok(())
 }
 
-/// `take_term` for a word that isn't a declared read where the cache last found one. It isn't
-/// inlined, so that the loop over terms needs fewer registers.
-#[inline(never)]
+/// `take_term` for a word that isn't a declared read where the cache last found one. Most of these
+/// words are literals, and only other words are passed to a function that isn't inlined.
+#[inline(always)]
 fn take_other(draft: &mut Draft<HashSeed>, minus: bool, word: &[u8]) -> Result<(), ReadFault>
     ensures { Takes result (further_of minus word.now) (with_one draft.old) draft.new }
 {
@@ -106,10 +106,7 @@ pub(crate) fn take_term(
 
 /// Adds the first term, whose sign is part of the word.
 #[tactic(auto, unfolding(crate::specs::Reading::first_of, crate::specs::Reading::further_of))]
-pub(crate) fn take_first(
-    draft: &mut Draft<HashSeed>,
-    word: &PackedWord<'_>,
-) -> Result<(), ReadFault>
+fn take_first(draft: &mut Draft<HashSeed>, word: &PackedWord<'_>) -> Result<(), ReadFault>
     ensures { Takes result (first_of word.now) (with_one draft.old) draft.new }
 {
     match word.bytes() {

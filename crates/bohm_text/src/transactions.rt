@@ -1,239 +1,24 @@
 //! Whole transactions, read word by word without looking for the ends of lines first. Where a text
 //! isn't of the usual form, or memory is short, it is left to the reader of lines.
 
-ghost use Rattle.std.specs.Prelude.{◌≡◌, ◌≤◌, ◌<◌, ◌++◌, ◌∷◌, [], IfSome, IsSome, length, take, codes};
-ghost use Rattle.bohm_log.specs.Drafting.{IsBare, IsBetween, fresh, with_write};
-ghost use Rattle.bohm_text.specs.Print.{cmp_word, lines_text, txn_lines};
+ghost use Rattle.std.specs.Prelude.{◌≡◌, ◌++◌, ◌∷◌, IfSome, IsSome, codes};
+ghost use Rattle.bohm_log.specs.Drafting.{IsBetween};
+ghost use Rattle.bohm_text.specs.Print.{lines_text, txn_lines};
 ghost use Rattle.bohm_text.specs.Targets.{StandsIn, name_in};
-ghost use Rattle.bohm_text.specs.Transactions.{AssignedRead, BodyRead, CondRead, FirstRead, KeysRead};
-ghost use Rattle.bohm_text.specs.Transactions.{StmtRead, SumRead, TermRead, declared, further_sign};
+ghost use Rattle.bohm_text.specs.Transactions.{AssignedRead, BodyRead, StmtRead};
 
 use crate::fixed_words::behind;
 use crate::parsing::split_line;
 use crate::statements::read_stmt;
-use crate::sums::{take_first, take_term};
 use crate::targets::{Target, read_target};
+use crate::whole_keys::{take_reads, take_writes};
+use crate::whole_sums::{take_cond, take_guard, take_sum};
+use crate::word_ends::{word_end, word_of};
 use bohm_log::{Draft, HashSeed};
-use bohm_types::{Cmp, Edition, Key, PackedWord};
-use std::simd::prelude::*;
-
-/// How many bytes are compared at once to find the end of a word.
-const WORD_BLOCK: usize = 16;
-
-/// The bytes of a packed word that is read at once.
-const PACKED: usize = 8;
-
-/// The bits of the first `WORD_BLOCK` bytes that are a space or a newline.
-#[inline(always)]
-fn ends_in(text: &[u8]) -> u64
-    requires { WORD_BLOCK ≤ length text.now }
-{
-    let block = u8x16::from_slice(text);
-    let spaces = block.simd_eq(u8x16::splat(b' ')).to_bitmask();
-    let newlines = block.simd_eq(u8x16::splat(b'\n')).to_bitmask();
-    spaces | newlines
-}
-
-/// The index of the first space or newline from an index on, or the text's length.
-#[inline(never)]
-fn far_end(text: &[u8], from: usize) -> usize
-    requires { from ≤ length text.now }
-    ensures { result ≤ length text.now }
-{
-    let behind = &text[from..];
-    if behind.len() >= WORD_BLOCK {
-        let ends = ends_in(behind);
-        if ends != 0 {
-            return text.len().min(from + ends.trailing_zeros() as usize);
-        }
-    }
-    for end in from..text.len() {
-        if text[end] == b' ' || text[end] == b'\n' {
-            return end;
-        }
-    }
-    text.len()
-}
-
-/// Where the first word ends: at a space, at a newline, or at the text's end. No contract depends
-/// on the place, since what is read is compared with what would be printed.
-#[inline(always)]
-fn word_end(text: &[u8]) -> usize
-    ensures { result ≤ length text.now }
-{
-    if text.len() < WORD_BLOCK {
-        return far_end(text, 0);
-    }
-    let ends = ends_in(text);
-    if ends == 0 {
-        return far_end(text, WORD_BLOCK);
-    }
-    let end = ends.trailing_zeros() as usize;
-    end.min(text.len())
-}
-
-/// The word of a text's first `size` bytes.
-#[inline(always)]
-fn word_of<'a>(text: &'a [u8], size: usize) -> PackedWord<'a>
-    requires { size ≤ length text.now }
-    ensures { result ≡ take size text.now }
-{
-    if text.len() >= PACKED {
-        return PackedWord::front(text, size);
-    }
-    PackedWord::new(&text[..size])
-}
-
-/// Declares the keys up to the line's end as read.
-fn take_reads<'a>(draft: &mut Draft<HashSeed>, text: &'a [u8]) -> Option<&'a [u8]>
-    requires { draft.old ≡ fresh draft.old.txn.edition }
-    ensures { IfSome result (λ rest. KeysRead text.now rest.now draft.new.txn.reads
-        × (draft.new ≡ declared draft.old.txn.edition draft.new.txn.reads [])) }
-{
-    let mut rest = text;
-    'keys: while let Some(front) = behind(b" ", rest) {
-        let end = word_end(front);
-        let word = word_of(front, end);
-        let Some(key) = Key::of_word(&word) else {
-            return None;
-        };
-        let Ok(()) = draft.read(key) else {
-            return None;
-        };
-        rest = &front[end..];
-    }
-    Some(rest)
-}
-
-/// Declares the key that a word spells as written. It has no effect where it fails.
-#[inline(always)]
-fn take_write(draft: &mut Draft<HashSeed>, word: &PackedWord<'_>) -> Option<()>
-    requires { IsBare draft.old }
-    ensures { IfSome result (λ _. draft.new ≡ with_write draft.old word.now) }
-{
-    match draft.write_again(word) {
-        Ok(true) => Some(()),
-        Ok(false) => {
-            let key = Key::of_word(word)?;
-            draft.write(key).ok()
-        }
-        Err(_) => None,
-    }
-}
-
-/// Declares the keys up to the line's end as written.
-fn take_writes<'a>(draft: &mut Draft<HashSeed>, text: &'a [u8]) -> Option<&'a [u8]>
-    requires { draft.old ≡ declared draft.old.txn.edition draft.old.txn.reads [] }
-    ensures { IfSome result (λ rest. KeysRead text.now rest.now draft.new.txn.writes
-        × (draft.new
-        ≡ declared draft.old.txn.edition draft.old.txn.reads draft.new.txn.writes)) }
-{
-    let mut rest = text;
-    'keys: while let Some(front) = behind(b" ", rest) {
-        let end = word_end(front);
-        let word = word_of(front, end);
-        let Some(()) = take_write(draft, &word) else {
-            return None;
-        };
-        rest = &front[end..];
-    }
-    Some(rest)
-}
-
-/// Adds a sum's first term, whose sign is part of its word.
-#[inline(always)]
-fn take_first_at<'a>(draft: &mut Draft<HashSeed>, text: &'a [u8]) -> Option<&'a [u8]>
-    ensures { IfSome result (λ rest. FirstRead text.now rest.now draft.old draft.new) }
-{
-    let end = word_end(text);
-    let word = word_of(text, end);
-    match take_first(draft, &word) {
-        Ok(()) => Some(&text[end..]),
-        Err(_) => None,
-    }
-}
-
-/// Adds the term after a sign and a space.
-#[inline(always)]
-fn take_term_at<'a>(draft: &mut Draft<HashSeed>, minus: bool, text: &'a [u8]) -> Option<&'a [u8]>
-    ensures { IfSome result (λ rest. TermRead minus text.now rest.now draft.old draft.new) }
-{
-    let end = word_end(text);
-    let word = word_of(text, end);
-    match take_term(draft, minus, &word) {
-        Ok(()) => Some(&text[end..]),
-        Err(_) => None,
-    }
-}
-
-/// The sign of a further term, and the text after it.
-#[inline(always)]
-fn sign_at<'a>(text: &'a [u8]) -> Option<(bool, &'a [u8])>
-    ensures { IfSome result (λ r. text.now ≡ further_sign r.0 ++ r.1.now) }
-{
-    match text {
-        [b' ', b'+', b' ', rest @ ..] => Some((false, rest)),
-        [b' ', b'-', b' ', rest @ ..] => Some((true, rest)),
-        _ => None,
-    }
-}
-
-/// Adds a sum, which begins with a space.
-fn take_sum<'a>(draft: &mut Draft<HashSeed>, text: &'a [u8]) -> Option<&'a [u8]>
-    ensures { IfSome result (λ rest. SumRead text.now rest.now draft.old draft.new) }
-{
-    let Some(first) = behind(b" ", text) else {
-        return None;
-    };
-    let Some(others) = take_first_at(draft, first) else {
-        return None;
-    };
-    let mut rest = others;
-    'terms: while let Some((minus, term)) = sign_at(rest) {
-        let Some(others) = take_term_at(draft, minus, term) else {
-            return None;
-        };
-        rest = others;
-    }
-    Some(rest)
-}
-
-/// A comparison after a space, and the text after it.
-#[inline(always)]
-fn cmp_at<'a>(text: &'a [u8]) -> Option<(Cmp, &'a [u8])>
-    ensures { IfSome result (λ r. text.now ≡ 32 ∷ cmp_word r.0 ++ r.1.now) }
-{
-    match text {
-        [b' ', b'>', b'=', rest @ ..] => Some((Cmp::Ge, rest)),
-        [b' ', b'>', rest @ ..] => Some((Cmp::Gt, rest)),
-        [b' ', b'<', b'=', rest @ ..] => Some((Cmp::Le, rest)),
-        [b' ', b'<', rest @ ..] => Some((Cmp::Lt, rest)),
-        [b' ', b'=', rest @ ..] => Some((Cmp::Eq, rest)),
-        _ => None,
-    }
-}
-
-/// Adds both sums of a condition, which begins with a space.
-fn take_cond<'a>(draft: &mut Draft<HashSeed>, text: &'a [u8]) -> Option<(Cmp, &'a [u8])>
-    requires { length draft.old.done < 2 }
-    ensures { IfSome result (λ r. CondRead r.0 text.now r.1.now draft.old draft.new) }
-{
-    let Some(left) = take_sum(draft, text) else {
-        return None;
-    };
-    let Some((cmp, right)) = cmp_at(left) else {
-        return None;
-    };
-    let Ok(()) = draft.next_sum() else {
-        return None;
-    };
-    let Some(rest) = take_sum(draft, right) else {
-        return None;
-    };
-    Some((cmp, rest))
-}
+use bohm_types::{Edition, Key};
 
 /// Adds the statement that sets a key to the sum here, with its guard, if any.
+#[inline(always)]
 fn take_assigned<'a>(
     draft: &mut Draft<HashSeed>,
     target: &Target<'_>,
@@ -262,7 +47,7 @@ fn take_assigned<'a>(
     let Ok(()) = draft.next_sum() else {
         return None;
     };
-    let Some((cmp, end)) = take_cond(draft, guard) else {
+    let Some((cmp, end)) = take_guard(draft, guard) else {
         return None;
     };
     let Ok(()) = target.put_when(draft, cmp) else {

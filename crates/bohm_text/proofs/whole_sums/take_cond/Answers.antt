@@ -1,5 +1,5 @@
 use Rattle.bohm_text.proofs.WholeTxns.{cond_read}
-use Rattle.bohm_text.proofs.transactions.take_cond.Goals as goal
+use Rattle.bohm_text.proofs.whole_sums.take_cond.Goals as goal
 
 pub returns : goal.returns
 returns c =

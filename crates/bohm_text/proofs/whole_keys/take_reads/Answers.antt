@@ -1,6 +1,6 @@
 use Rattle.std.proofs.Common.{[], sym, ◌∙◌}
 use Rattle.bohm_text.proofs.WholeTxns.{bare, nothing_made, nothing_read, read_made, read_more_keys, shorter}
-use Rattle.bohm_text.proofs.transactions.take_reads.Goals as goal
+use Rattle.bohm_text.proofs.whole_keys.take_reads.Goals as goal
 
 pub keys-init : goal.keys-init
 keys-init c = record {

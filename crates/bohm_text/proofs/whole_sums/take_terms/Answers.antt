@@ -1,5 +1,5 @@
 use Rattle.bohm_text.proofs.WholeTxns.{smaller_term, sum_begun, sum_more}
-use Rattle.bohm_text.proofs.transactions.take_sum.Goals as goal
+use Rattle.bohm_text.proofs.whole_sums.take_terms.Goals as goal
 
 pub terms-init : goal.terms-init
 terms-init c = sum_begun c.args.text.now c.in-Some.first.now c.in-Some-take_first_at.others.now c.args.draft.now c.take_first_at.new.draft

@@ -1,5 +1,5 @@
 use Rattle.bohm_text.proofs.WholeTxns.{bare, nothing_made_written, nothing_written, shorter, written_made, written_more}
-use Rattle.bohm_text.proofs.transactions.take_writes.Goals as goal
+use Rattle.bohm_text.proofs.whole_keys.take_writes.Goals as goal
 
 pub keys-init : goal.keys-init
 keys-init c = record {

@@ -1,6 +1,6 @@
 use Rattle.std.proofs.Common.{◌≡◌, length}
 use Rattle.bohm_text.specs.Transactions.{KeysRead, declared}
-use Rattle.bohm_text.proofs.transactions.take_writes.Given as goal
+use Rattle.bohm_text.proofs.whole_keys.take_writes.Given as goal
 
 abbrev pub invariant-keys : goal.invariant-keys
 invariant-keys l = record {

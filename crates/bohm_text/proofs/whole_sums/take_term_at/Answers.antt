@@ -1,5 +1,5 @@
 use Rattle.bohm_text.proofs.WholeTxns.{behind, parted, term_read}
-use Rattle.bohm_text.proofs.transactions.take_term_at.Goals as goal
+use Rattle.bohm_text.proofs.whole_sums.take_term_at.Goals as goal
 
 pub returns-in-Ok : goal.returns-in-Ok
 returns-in-Ok c =

@@ -1,6 +1,6 @@
 use Rattle.std.proofs.Common.{length}
 use Rattle.bohm_text.specs.Transactions.{SumRead}
-use Rattle.bohm_text.proofs.transactions.take_sum.Given as goal
+use Rattle.bohm_text.proofs.whole_sums.take_terms.Given as goal
 
 abbrev pub invariant-terms : goal.invariant-terms
 invariant-terms l = SumRead l.fn.text l.rest l.fn.draft l.draft

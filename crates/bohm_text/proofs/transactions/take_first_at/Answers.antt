@@ -1,6 +1,0 @@
-use Rattle.bohm_text.proofs.WholeTxns.{behind, first_read, parted}
-use Rattle.bohm_text.proofs.transactions.take_first_at.Goals as goal
-
-pub returns-in-Ok : goal.returns-in-Ok
-returns-in-Ok c = first_read c.args.text.now c.word_of-word.result (behind c.word_end-end.result c.args.text.now) c.args.draft.now c.take_first.new.draft
-    (parted c.word_end-end.result c.args.text.now c.word_of-word.result c.word_of-word.ensures) c.in-Ok.ensures
