@@ -117,6 +117,18 @@ stayed was mid now txns keep a same h =
       count = omega (arith, same.count, h.count);
     }
 
+-- nothing of the past changes
+pub still_here : (was : Timeline) → IsStillPast was was
+still_here was = record { top = refl; floor = refl; past = λ ts above below. refl; count = omega arith }
+
+pub still_same : (was now : Timeline) → IsSame was now → IsStillPast was now
+still_same was now same = record {
+  top = same.top;
+  floor = same.floor;
+  past = λ ts above below i k. cell_at ts (same.versions k i) Absent;
+  count = omega (arith, same.count);
+}
+
 -- ---- a batch that runs while the floor stays, and is then rewound or trimmed
 
 pub floor_stays : (was : Timeline) (keep n : ℕ) → was.top + n ≤ keep → floor_after was keep n ≡ was.floor

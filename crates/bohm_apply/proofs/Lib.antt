@@ -5,4 +5,5 @@ mod Walks
 mod Replying
 mod Shares
 mod Swept
+mod SharedRest
 pub mod ForCallers

@@ -3,6 +3,7 @@ pub mod Progresses
 pub mod Replies
 pub mod Settling
 pub mod Sweeps
+pub mod Shared
 pub mod Sides
 pub mod Lines
 pub mod Planning

@@ -1,5 +1,5 @@
 -- The results of a batch's workers.
-use Rattle.std.specs.Prelude.{◌≡◌, ℕ, ◌%◌, ◌<◌, List, [], length, ◌⊎◌, IfOk}
+use Rattle.std.specs.Prelude.{◌≡◌, ℕ, ◌%◌, ◌<◌, List, [], length, Contains, ◌⊎◌, IfOk}
 use Rattle.bohm_board.specs.declared.batch.Batch.{Batch}
 use Rattle.bohm_board.specs.declared.board.Board.{Board}
 use Rattle.bohm_board.specs.declared.knowledge.View.{View}
@@ -36,3 +36,7 @@ pub record IsSwept (b : Board) (w : Worker) (s : Swept) : Type 0 where
 -- the pass saw each position of the batch Done, or the position was deferred
 abbrev pub AreAllSwept : Batch → View → List Pairs → Type 0
 AreAllSwept b v asides = (t : ℕ) → IsIn b t → IsDone b v t ⊎ IsSetAside asides t
+
+-- the pass saw each position of the batch Done, or it is among these
+abbrev pub IsLeftBy : Batch → View → List ℕ → Type 0
+IsLeftBy b v left = (t : ℕ) → IsIn b t → IsDone b v t ⊎ Contains left t

@@ -12,6 +12,8 @@ mod replies;
 mod running;
 mod serial_executor;
 mod settling;
+mod shared_batch;
+mod single_call;
 mod workers;
 
 pub use applying::{Applied, apply};
@@ -23,4 +25,6 @@ pub use executing::Executor;
 pub use plan_queue::{Line, PlanNote, PlanReceiver, PlanSender, plan_line};
 pub use running::{Answer, run, run_in_order};
 pub use serial_executor::SerialExecutor;
+pub use settling::settle_alone;
+pub use shared_batch::{BatchWorker, SharedBatch};
 pub use workers::ScratchPool;

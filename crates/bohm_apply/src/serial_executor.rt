@@ -16,6 +16,7 @@ use crate::applying::Applied;
 use bohm_hints::IndexHints;
 use bohm_log::{LogPart, TxnView};
 use bohm_place::{CutLog, Cuts};
+use bohm_shapes::Registers;
 use bohm_store::{History, Workspace};
 use bohm_txn::{Replies, ReplySink, Scratch};
 use bohm_types::NoMemory;
@@ -27,8 +28,10 @@ use std::mem;
 pub struct SerialExecutor {
     /// The index hints of the logs that it applied.
     hints: IndexHints,
-    workspace: Workspace,
+    pub(crate) workspace: Workspace,
     scratch: Scratch,
+    /// What a single call is evaluated in.
+    pub(crate) registers: Registers,
 }
 
 // Written out: a derived drop is proved anew in each function that drops such a value.
@@ -38,10 +41,12 @@ impl Drop for SerialExecutor {
             hints,
             workspace,
             scratch,
+            registers,
         } = self;
         drop(hints);
         drop(workspace);
         drop(scratch);
+        drop(registers);
     }
 }
 
@@ -51,6 +56,7 @@ impl SerialExecutor {
             hints: IndexHints::new(alloc),
             workspace: Workspace::new(alloc),
             scratch: Scratch::new(alloc)?,
+            registers: Registers::new(alloc)?,
         })
     }
 

@@ -9,14 +9,16 @@ ghost use Rattle.bohm_txn.specs.declared.outcome.Reply.{Reply};
 ghost use Rattle.bohm_board.specs.Batches.{first_of, txns_of};
 ghost use Rattle.bohm_exec.specs.Answers.{batch_of_finished};
 ghost use Rattle.bohm_store.specs.Writes.{AreListedFrom, AreShares};
+ghost use Rattle.bohm_store.specs.Nexts.{IsNext};
 ghost use Rattle.bohm_apply.specs.Replies.{replies_of};
+ghost use Rattle.bohm_apply.specs.Runs.{IsApplied, IsStillPast};
 ghost use Rattle.bohm_apply.specs.Settling.{IsShareFrom};
 
 use crate::replies::replies_from;
 use bohm_exec::Finished;
 use bohm_hints::IndexHints;
 use bohm_store::{History, ListedWrites};
-use bohm_txn::ReplySink;
+use bohm_txn::{Replies, ReplySink};
 use bohm_types::NoMemory;
 use std::alloc::Global;
 use std::thread;
@@ -133,4 +135,29 @@ pub(crate) fn settle_batch<S: ReplySink + Send + Drop, R: Threads + Sync>(
         listed.push(writes)?;
     }
     Ok(listed)
+}
+
+/// Settles a finished batch on the caller's thread: appends its versions to the history, and returns
+/// its replies. The batch is the next one of the history. `keep` timestamps below the new top stay
+/// readable. An error leaves the visible state unchanged.
+///
+/// The time grows with the number of the batch's statements, and with that of the earlier versions
+/// that are dropped.
+pub fn settle_alone(
+    alloc: Global,
+    history: &mut History,
+    hints: &mut IndexHints,
+    finished: &Finished<'_>,
+    keep: u32,
+) -> Result<Replies, NoMemory>
+    requires { IsNext history.old (batch_of_finished finished.now) }
+    ensures applied { IfOk result (IsApplied history.old history.new
+        (txns_of (batch_of_finished finished.now)) keep) }
+    ensures still { OnErr result (IsStillPast history.old history.new) }
+{
+    let count = finished.len();
+    let floor = (history.top() + count).saturating_sub(keep);
+    let replies = replies_from(alloc, finished, 0, count)?;
+    history.settle_kept(alloc, hints, finished, floor)?;
+    Ok(replies)
 }

@@ -13,15 +13,15 @@ mod scratch_pool;
 use bohm_board::{Batch, Board, Pass};
 use bohm_exec::{Aside, Finished, Gate, complete};
 use bohm_types::NoMemory;
-use job::{Job, Swept, work};
-pub(crate) use job::{Worker, sweep_share};
+use job::Swept;
+pub(crate) use job::{Job, Worker, sweep_share, work};
 pub use scratch_pool::ScratchPool;
 use std::alloc::Global;
 use std::thread;
 use std::thread::Threads;
 
 /// A job for each worker, with its own pass, and the pass that is left.
-fn deal(
+pub(crate) fn deal(
     alloc: Global,
     board: &Board,
     mut pass: Pass,

@@ -2,3 +2,5 @@
 
 -- the entries of a store rise
 pub use Rattle.bohm_machine.proofs.Rising.{listed_rise}
+-- numbers keep their keys when keys are appended
+pub use Rattle.bohm_machine.proofs.Numbers.{pushed_named, pushed_names}

@@ -2,6 +2,8 @@
 use Rattle.std.proofs.Common.{◌≡◌, ℕ, ◌+◌, ◌-◌, ◌<◌, ◌≤◌, ◌^◌, ◌++◌, List, [], ◌∷◌, append-nil, length, length-append, take, refl, ap, sym, ◌∙◌, arith, ⊎_elim}
 use Rattle.std.specs.Prelude.{ℤ, Result, Ok, Err, IfOk, OnOk, OnErr}
 use Rattle.std.specs.FinMap.{entries}
+use Rattle.std.specs.Map.{keys_of}
+use Rattle.bohm_types.specs.Keys.{names_of}
 use Rattle.std.proofs.lemmas.List.{length-take}
 use Rattle.std.proofs.lemmas.Bool.{cases_lt}
 use Rattle.bohm_types.specs.Txn.{Txn}
@@ -154,9 +156,10 @@ compacted_run was now top floor holds look start log h = record {
 -- a machine that was restored from the store at another one's top is that one, compacted
 pub compacted : {E : Type 0} (was : Timeline) (top : ℕ) (store : List (List ℕ × ℤ)) (r : Result Timeline E) → top ≡ top_of was
     → cell_in (store_of store) ≡ past_of was top → store ≡ entries (store_of store) → IfOk r (λ m. top_of m ≡ top) → IfOk r (λ m. floor_of m ≡ top)
-    → IfOk r (λ m. past_of m top ≡ cell_in (store_of store)) → IfOk r (λ m. total m.chains ≡ length store) → IfOk r (IsCompacted was)
-compacted was top store (Err e) at cells listed tops floors pasts counts = tt
-compacted was top store (Ok m) at cells listed tops floors pasts counts =
+    → IfOk r (λ m. past_of m top ≡ cell_in (store_of store)) → IfOk r (λ m. keys_of m.chains ≡ names_of store)
+    → IfOk r (λ m. total m.chains ≡ length store) → IfOk r (IsCompacted was)
+compacted was top store (Err e) at cells listed tops floors pasts names counts = tt
+compacted was top store (Ok m) at cells listed tops floors pasts names counts =
     let same : top_of m ≡ top_of was = tops ∙ at in
     let low : floor_of m ≡ top_of was = floors ∙ at in
     let holds : now_of m ≡ now_of was = ap (past_of m) tops ∙ pasts ∙ cells ∙ ap (past_of was) at in
@@ -167,6 +170,7 @@ compacted was top store (Ok m) at cells listed tops floors pasts counts =
       store = store;
       listed = listed;
       cells = cells ∙ ap (past_of was) at;
+      names = names;
       count = counts;
       run = compacted_run was m same low holds;
     }

@@ -1,6 +1,8 @@
 -- The state of a machine, and how it continues.
 use Rattle.std.specs.Prelude.{◌≡◌, ℕ, ℤ, ◌+◌, ◌-◌, ◌≤◌, List, length}
 use Rattle.std.specs.FinMap.{entries}
+use Rattle.std.specs.Map.{keys_of}
+use Rattle.bohm_types.specs.Keys.{names_of}
 use Rattle.bohm_types.specs.Txn.{Txn}
 use Rattle.bohm_txn.specs.declared.outcome.Reply.{Reply}
 use Rattle.bohm_txn.specs.Meaning.{Look}
@@ -39,7 +41,7 @@ pub record HasRun (look : Look) (start : ℕ) (log : List Txn) (m : Timeline) : 
   pub ordered : floor_of m ≤ top_of m
   pub past : (ts : ℕ) → floor_of m ≤ ts → ts ≤ top_of m → past_of m ts ≡ state look log (ts - start)
 
--- the machine forgot the past before its top, and keeps one version of each key that has a value there, and no other
+-- the machine forgot the past before its top. It names just the keys that have a value there, and keeps one version of each
 pub record IsCompacted (was now : Timeline) : Type 0 where
   pub top : top_of now ≡ top_of was
   pub floor : floor_of now ≡ top_of was
@@ -47,5 +49,6 @@ pub record IsCompacted (was now : Timeline) : Type 0 where
   pub store : List (List ℕ × ℤ)
   pub listed : store ≡ entries (store_of store)
   pub cells : cell_in (store_of store) ≡ now_of was
+  pub names : keys_of now.chains ≡ names_of store
   pub count : total now.chains ≡ length store
   pub run : (look : Look) (start : ℕ) (log : List Txn) → HasRun look start log was → HasRun look start log now

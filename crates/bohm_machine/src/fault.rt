@@ -2,6 +2,8 @@
 
 ghost use Rattle.std.specs.Prelude.{◌≡◌};
 ghost use Rattle.bohm_machine.specs.declared.fault.BatchFault.TheVariants as batch_is;
+ghost use Rattle.bohm_machine.specs.declared.fault.ShareFault.TheVariants as share_is;
+ghost use Rattle.bohm_machine.specs.declared.fault.SingleFault.TheVariants as single_is;
 
 use bohm_types::NoMemory;
 use thiserror::Error;
@@ -41,5 +43,57 @@ impl From<NoMemory> for BatchFault {
 
     fn from(_e: NoMemory) -> BatchFault {
         BatchFault::NoMemory
+    }
+}
+
+/// Why calls aren't shared among workers.
+#[derive(Clone, Copy, Debug, PartialEq, Eq, Error)]
+pub enum ShareFault {
+    /// The machine refuses them as a segment.
+    #[error("{0}")]
+    Segment(SegmentFault),
+    /// One worker runs them in less time.
+    #[error("one worker runs these calls in less time")]
+    InOrder,
+    /// An allocation failed.
+    #[error("an allocation failed")]
+    NoMemory,
+}
+
+impl From<SegmentFault> for ShareFault {
+    ghost from_gives = { λ fault e. e ≡ share_is.Segment fault };
+
+    fn from(fault: SegmentFault) -> ShareFault {
+        ShareFault::Segment(fault)
+    }
+}
+
+impl From<NoMemory> for ShareFault {
+    ghost from_gives = { λ _ e. e ≡ share_is.NoMemory };
+
+    fn from(_e: NoMemory) -> ShareFault {
+        ShareFault::NoMemory
+    }
+}
+
+/// Why a single call isn't run.
+#[derive(Clone, Copy, Debug, PartialEq, Eq, Error)]
+pub enum SingleFault {
+    /// Only a list of calls can run it.
+    #[error("the call runs in a list alone")]
+    InList,
+    /// Its timestamp would exceed 4294967295.
+    #[error("the call's timestamp would pass 4294967295")]
+    Timestamps,
+    /// An allocation failed.
+    #[error("an allocation failed")]
+    NoMemory,
+}
+
+impl From<NoMemory> for SingleFault {
+    ghost from_gives = { λ _ e. e ≡ single_is.NoMemory };
+
+    fn from(_e: NoMemory) -> SingleFault {
+        SingleFault::NoMemory
     }
 }

@@ -8,7 +8,11 @@ mod digest;
 mod fault;
 pub mod laws;
 mod machine;
+mod sharing;
+mod single_calls;
 
-pub use bohm_apply::Applied;
-pub use fault::{BatchFault, SegmentFault};
+pub use bohm_apply::{Applied, BatchWorker};
+pub use fault::{BatchFault, SegmentFault, ShareFault, SingleFault};
 pub use machine::Machine;
+pub use sharing::SharedCalls;
+pub use single_calls::CallKeys;

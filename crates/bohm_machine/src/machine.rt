@@ -36,10 +36,10 @@ use std::thread::Threads;
 /// to it, one after another, each after the top.
 pub struct Machine {
     seed: DrawnSeed,
-    history: History,
-    executor: SerialExecutor,
-    /// The index hints of the lists that `run_batch` ran.
-    hints: IndexHints,
+    pub(crate) history: History,
+    pub(crate) executor: SerialExecutor,
+    /// The index hints of the lists that `run_batch` and `finish` ran.
+    pub(crate) hints: IndexHints,
 }
 
 // Written out: a derived drop is proved anew in each function that drops such a value.
@@ -80,6 +80,7 @@ impl Machine {
         ensures floor { IfOk result (λ m. floor_of m ≡ top) }
         ensures past { IfOk result (λ m. past_of m top ≡ cell_in (store_of store.now)) }
         ensures run { IfOk result (HasRun (cell_in (store_of store.now)) top []) }
+        ensures names { IfOk result (λ m. keys_of m.chains ≡ names_of store.now) }
         ensures count { IfOk result (λ m. total m.chains ≡ length store.now) }
     {
         let history = History::restore_sharing(alloc, store, top, seed)?;
@@ -324,7 +325,7 @@ impl Machine {
 }
 
 /// The result if nothing was run.
-fn unapplied(alloc: Global, refusal: NoMemory) -> Applied
+pub(crate) fn unapplied(alloc: Global, refusal: NoMemory) -> Applied
     ensures replies { result.replies ≡ [] }
     ensures end { result.end ≡ Err refusal }
 {

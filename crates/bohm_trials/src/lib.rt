@@ -1,5 +1,6 @@
 //! Tests of whole runs. They cover drawn logs against the plain program, workers that are held at
-//! gates, what runs leave, failing readers and writers, a refused plan, and texts in windows.
+//! gates, what runs leave, failing readers and writers, a refused plan, texts in windows, and calls
+//! that workers share.
 #![tactic(auto)]
 
 #[cfg(test)]
@@ -18,6 +19,8 @@ mod line;
 mod random;
 #[cfg(test)]
 mod runs;
+#[cfg(test)]
+mod shared_calls;
 #[cfg(test)]
 mod soak;
 #[cfg(test)]

@@ -45,6 +45,20 @@ impl ScratchPool {
         })
     }
 
+    /// A pool for this many workers, with the scratches of some of them.
+    pub(crate) fn filled(
+        alloc: Global,
+        executors: Executors,
+        workers: u32,
+    ) -> Result<ScratchPool, NoMemory>
+        ensures count { IfOk result (λ pool. workers_of pool ≡ executors) }
+        ensures full { IfOk result (λ pool. workers ≤ vec_len pool.scratches) }
+    {
+        let mut pool = ScratchPool::new(alloc, executors)?;
+        pool.fill(alloc, workers)?;
+        Ok(pool)
+    }
+
     /// The number of workers.
     pub fn workers(&self) -> u32
         ensures count { result ≡ workers_of self.now }
