@@ -113,7 +113,7 @@ def check(path, acknowledged, program):
         copy = copied(Path(path), folder)
         sound = subprocess.run(["sqlite3", copy, "PRAGMA integrity_check"], capture_output=True, text=True)
         need(sound.stdout == "ok\n", f"sqlite3 says {sound.stdout}{sound.stderr}")
-        if not rows_of(copy, "SELECT name FROM sqlite_master"):
+        if not rows_of(copy, "SELECT name FROM sqlite_master") or not rows_of(copy, "SELECT format FROM ledger"):
             need(not acknowledged, "the tables are gone")
             return 0
         past = Past(batches_of(copy), program)

@@ -8,33 +8,10 @@ import random
 import sys
 from pathlib import Path
 
-sys.path.insert(0, str(Path(__file__).resolve().parents[2] / "packaging" / "python"))
+sys.path[:0] = [str(Path(__file__).resolve().parents[2] / "packaging" / "python"), str(Path(__file__).resolve().parent)]
 import bohm  # noqa: E402
 import bohm.ledger  # noqa: E402
-
-ACCOUNTS = [f"a{number}" for number in range(12)]
-TRANSFER = """\
-procedure 2
-key payer
-key payee
-value amount
-reads payee payer
-writes payee payer
-need payer >= $amount
-set payer = payer - $amount
-set payee = payee + $amount
-show payee
-end
-"""
-FILL = """\
-procedure 2
-key account
-value amount
-reads
-writes account
-set account = $amount
-end
-"""
+from drawing import entry, first  # noqa: E402
 
 
 def tell(word, what):
@@ -63,21 +40,6 @@ def checkpoint(ledger):
             sys.exit(3)
 
 
-def entry(rng, name):
-    """An entry with an id, or one that is refused."""
-    kind = rng.random()
-    payer, payee = rng.choice(ACCOUNTS), rng.choice(ACCOUNTS)
-    if kind < 0.6:
-        return f"call #{name} transfer {payer} {payee} {rng.randrange(1, 60)}\n"
-    if kind < 0.75:
-        return f"call #{name} fill {payer} {rng.randrange(100)}\n"
-    if kind < 0.9:
-        return f"txn #{name}\nreads {payer}\nwrites {payer}\nset {payer} = {payer} - 7\nneed {payer} >= 0\nend\n"
-    if kind < 0.95:
-        return f"define #{name} transfer\n" + TRANSFER.replace("show payee\n", rng.choice(["", "show payee\n", "show payer\n"]))
-    return rng.choice([f"call #{name} transfer {payer}\n", f"txn #{name}\nreads\nwrites\nset {payer} = 1\nend\n", "nothing\n"])
-
-
 def main(library, path, seed):
     unanswered, rng = json.loads(sys.stdin.readline()), random.Random(seed)
     bohm.ledger.ARCHIVED = 3000
@@ -86,8 +48,8 @@ def main(library, path, seed):
     if unanswered:
         send(ledger, unanswered)
     if not ledger.top:
-        send(ledger, ["define #transfer transfer\n" + TRANSFER, "define #fill fill\n" + FILL])
-        send(ledger, [f"call #{account} fill {account} 50\n" for account in ACCOUNTS])
+        for texts in first():
+            send(ledger, texts)
     number, sent = 0, []
     while True:
         kind = rng.random()

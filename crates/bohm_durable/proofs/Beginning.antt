@@ -1,5 +1,5 @@
 -- A machine that was made from a store.
-use Rattle.std.proofs.Common.{◌≡◌, ℕ, Bool, true, false, cond, List, [], ◌∷◌, Some, refl, ap, sym, subst, ◌∙◌, arith}
+use Rattle.std.proofs.Common.{◌≡◌, ◌+◌, ◌-◌, ◌≤◌, ℕ, Bool, true, false, cond, List, [], ◌∷◌, Some, refl, ap, sym, subst, ◌∙◌, arith}
 use Rattle.std.specs.Prelude.{ℤ}
 use Rattle.std.specs.Map.{lookup}
 use Rattle.std.specs.Str.{bytes_eq}
@@ -53,3 +53,11 @@ at_once m look same now =
 -- a machine that was made from a store
 pub restored : (m : Timeline) (n : ℕ) (es : List (List ℕ × ℤ)) → top_of m ≡ n → floor_of m ≡ n → past_of m n ≡ cell_in (store_of es) → IsAtOnce m (cells es)
 restored m n es top floor past = at_once m (cells es) (floor ∙ sym top) (ap (past_of m) top ∙ (past ∙ cells_of es))
+
+-- a machine that was made anew at its last checkpoint
+pub renewed : (was now : Timeline) (n last floor : ℕ) → last ≡ top_of was → floor ≡ floor_of was → floor ≡ last → floor_of now ≡ 0
+    → past_of now 0 ≡ past_of was last → n ≤ top_of was - floor_of was → past_of now (floor_of now + n) ≡ past_of was (floor_of was + n)
+renewed was now n last floor top low same begins past few =
+    let here : floor_of now + n ≡ 0 = omega (arith, top, low, same, begins, few) in
+    let there : last ≡ floor_of was + n = omega (arith, top, low, same, few) in
+    ap (past_of now) here ∙ (past ∙ ap (past_of was) there)

@@ -1,12 +1,13 @@
 -- A machine that runs one transaction keeps what it held at the last checkpoint, and the list of what changed since.
-use Rattle.std.proofs.Common.{◌≡◌, ℕ, ◌-◌, Bool, true, false, zero, suc, List, [], ◌∷◌, length, take, refl, ap, sym, subst, ◌∙◌, arith}
+use Rattle.std.proofs.Common.{◌≡◌, ℕ, ◌-◌, Bool, true, false, zero, suc, List, [], ◌∷◌, ◌++◌, length, take, refl, ap, sym, subst, ◌∙◌, arith}
+use Rattle.std.proofs.lemmas.List.{take_all}
 use Rattle.std.specs.List.{All}
 use Rattle.bohm_types.specs.Keys.{is_among}
 use Rattle.bohm_types.specs.Txn.{Txn}
 use Rattle.bohm_txn.specs.declared.outcome.Reply.{Reply}
 use Rattle.bohm_txn.specs.Faulty.{IsWellFormedTxn}
-use Rattle.bohm_txn.specs.Meaning.{Look}
-use Rattle.bohm_txn.specs.Serial.{after, state}
+use Rattle.bohm_txn.specs.Meaning.{Look, body}
+use Rattle.bohm_txn.specs.Serial.{after, replies, reply_of, state}
 use Rattle.bohm_txn.proofs.ForCallers.{kept, usable}
 use Rattle.bohm_store.specs.Versions.{Timeline}
 use Rattle.bohm_machine.specs.Machines.{GoesOn, floor_of, now_of, past_of, top_of}
@@ -66,6 +67,23 @@ one_since was now (t ∷ u ∷ ts) n a changed one well g since noted = absurd (
 one_since was now (t ∷ []) zero a changed one well g since noted = since_with was now [] a changed g since (λ k absent. refl)
 one_since was now (t ∷ []) (suc n) a changed one well g since noted = since_with was now (t ∷ []) a changed (all_taken was now t n a g) since
     (λ k absent. kept (now_of was) t k (usable t (well t refl)) (λ among. not_both (is_among changed k) absent (noted t refl k among)))
+
+-- the only transaction of a log was run
+pub batch_since : (was now : Timeline) (log : List Txn) (a : List Reply) (changed : List (List ℕ)) → length log ≡ 1
+    → ((t : Txn) → log ≡ t ∷ [] → IsWellFormedTxn t) → GoesOn was now log a → IsSince was changed
+    → ((t : Txn) → log ≡ t ∷ [] → (k : List ℕ) → is_among t.writes k ≡ true → is_among changed k ≡ true) → IsSince now changed
+batch_since was now log a changed one well g since noted =
+    let whole : take (length log) log ≡ log = take_all (length log) log (omega arith) in
+    one_since was now log (length log) a changed one well (subst (λ (ts : List Txn). GoesOn was now ts a) (sym whole) g) since noted
+
+-- nothing was run
+pub still_since : (was now : Timeline) (a : List Reply) (changed : List (List ℕ)) → GoesOn was now [] a → IsSince was changed → IsSince now changed
+still_since was now a changed g since = since_with was now [] a changed g since (λ k absent. refl)
+
+-- the reply to the only transaction of a log
+pub one_replied : (look : Look) (log : List Txn) (t : Txn) (before now : List Reply) → before ≡ [] → now ≡ before ++ replies look log → log ≡ t ∷ []
+    → now ≡ reply_of (body look t) ∷ []
+one_replied look log t before now none answered is = answered ∙ (λ i. none i ++ replies look (is i))
 
 -- the log of one transaction was run whole
 pub one_applied : (was now : Timeline) (log : List Txn) (a : List Reply) (t : Txn) → length a ≡ 1 → GoesOn was now (take (length a) log) a → log ≡ t ∷ []

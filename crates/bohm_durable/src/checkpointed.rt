@@ -3,11 +3,11 @@
 ghost use Rattle.std.specs.Prelude.{◌≡◌};
 ghost use Rattle.bohm_durable.specs.Entering.{IsSince};
 
-use crate::applying::{apply_one, is_rising, note_writes};
+use crate::applying::{apply_call, apply_one, hold_call, is_rising, note_writes, sort_keys};
 use bohm_ledger::MachineFault;
 use bohm_log::DrawnSeed;
 use bohm_machine::Machine;
-use bohm_procedures::Calls;
+use bohm_procedures::{Calls, Procedure};
 use bohm_replay::Past;
 use bohm_txn::{Checked, Replies};
 use bohm_types::{Cell, Edition, Key, NoMemory, Value};
@@ -18,7 +18,6 @@ const LATE: u32 = 1 << 31;
 
 /// A machine that remembers what each key held at the last checkpoint, and which keys may have
 /// changed since.
-#[derive(Drop)]
 pub struct Checkpointed {
     alloc: Global,
     seed: DrawnSeed,
@@ -27,18 +26,38 @@ pub struct Checkpointed {
     machine: Machine,
     /// The keys that transactions since the last checkpoint declared to write.
     changed: Vec<Key>,
+    /// The call that is run; its memory is used again for the next one.
+    calls: Calls,
     ghost since: { IsSince machine changed.items },
+}
+
+// Written out: a derived drop is proved anew in each function that drops such a value.
+impl Drop for Checkpointed {
+    fn drop(self) {
+        let Self {
+            alloc: _,
+            seed: _,
+            machine,
+            changed,
+            calls,
+        } = self;
+        drop(machine);
+        drop(changed);
+        drop(calls);
+    }
 }
 
 impl Checkpointed {
     /// A machine whose keys hold nothing. Keys are hashed with the seed.
     pub fn new(alloc: Global, seed: DrawnSeed) -> Result<Checkpointed, NoMemory> {
         let machine = Machine::restore(alloc, seed, &[], 0)?;
+        let calls = machine.calls(alloc, Edition::Two)?;
         Ok(Checkpointed {
             alloc,
             seed,
             machine,
             changed: Vec::new(alloc),
+            calls,
         })
     }
 
@@ -70,6 +89,10 @@ impl Past for Checkpointed {
         let Ok(machine) = Machine::restore(self.alloc, self.seed, store, 0) else {
             return Err(MachineFault::OutOfMemory);
         };
+        let Ok(calls) = machine.calls(self.alloc, self.calls.segment().edition()) else {
+            return Err(MachineFault::OutOfMemory);
+        };
+        self.calls = calls;
         self.machine = machine;
         self.changed.clear();
         Ok(())
@@ -86,6 +109,10 @@ impl Past for Checkpointed {
         let Ok(machine) = Machine::restore(self.alloc, self.seed, store.as_slice(), 0) else {
             return Err(MachineFault::OutOfMemory);
         };
+        let Ok(calls) = machine.calls(self.alloc, self.calls.segment().edition()) else {
+            return Err(MachineFault::OutOfMemory);
+        };
+        self.calls = calls;
         self.machine = machine;
         Ok(())
     }
@@ -99,6 +126,31 @@ impl Past for Checkpointed {
             return Err(MachineFault::OutOfMemory);
         }
         apply_one(&mut self.machine, self.alloc, log)
+    }
+
+    fn run_call(
+        &mut self,
+        procedure: &Procedure,
+        keys: &[Key],
+        values: &[Value],
+        answered: &mut Replies,
+    ) -> Result<(), MachineFault> {
+        let held = hold_call(
+            &mut self.calls,
+            &self.machine,
+            self.alloc,
+            procedure,
+            keys,
+            values,
+        );
+        if held.is_err() || note_writes(&mut self.changed, self.calls.segment()).is_err() {
+            return Err(MachineFault::OutOfMemory);
+        }
+        apply_call(&mut self.machine, &self.calls, answered)
+    }
+
+    fn sort_changed(&mut self) {
+        sort_keys(&mut self.changed);
     }
 
     fn changed(&self) -> &[Key] {

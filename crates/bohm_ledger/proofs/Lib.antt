@@ -11,3 +11,4 @@ pub mod Creating
 pub mod Finding
 pub mod Answering
 pub mod Placing
+pub mod Thinning

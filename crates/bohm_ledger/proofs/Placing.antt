@@ -13,7 +13,7 @@ use Rattle.bohm_ledger.specs.Places.{IsAt, IsMissing}
 use Rattle.bohm_ledger.proofs.Forgetting.{is_it, is_another}
 
 -- what a filter leaves was there, and passes its test
-passed : (p : Row → Bool) (rows : List Row) (row : Row) → Has row (filter p rows) → Has row rows × (p row ≡ true)
+pub passed : (p : Row → Bool) (rows : List Row) (row : Row) → Has row (filter p rows) → Has row rows × (p row ≡ true)
 passed p [] row none = absurd none
 passed p (r ∷ rows) row there = go (p r) refl (passed p rows row) there
   where

@@ -95,6 +95,20 @@ module _ {Defs : Type 0} (rules : Rules Defs) (edition : Edition) (bs : List (Li
         kept = rw short (same ∙ ready.kept);
       }
 
+  -- the same state and checkpoint by other names
+  pub alike : (t : State Defs) (l : Look) → t ≡ state → l ≡ saved → IsReady rules edition bs v place checkpoint t l
+  alike t l same kept = record {
+    sound = ready.sound;
+    settled = ready.settled;
+    tables = ready.tables;
+    mark = ready.mark;
+    ledger = ready.ledger;
+    placed = ready.placed;
+    ran = same ∙ ready.ran;
+    checkpointed = ready.checkpointed;
+    kept = kept ∙ ready.kept;
+  }
+
   -- where everything is undone, the ledger is as it was
   pub undone : (new : View) → IsUndone v new → IsReady rules edition bs new place checkpoint state saved
   undone new back =

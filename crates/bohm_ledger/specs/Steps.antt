@@ -1,15 +1,15 @@
 -- What each step of a ledger does to the trees of its store.
-use Rattle.std.specs.Prelude.{◌≡◌, ◌≢◌, ◌≤◌, ◌⊎◌, ℕ, ◌+◌, Bool, true, false, length, List, [], ◌∷◌, Option, Some, None, if◌then◌else◌}
+use Rattle.std.specs.Prelude.{◌≡◌, ◌≢◌, ◌<◌, ◌≤◌, ◌⊎◌, ℕ, pos, ◌+◌, Bool, true, false, length, List, [], ◌∷◌, Option, Some, None, if◌then◌else◌}
 use Rattle.std.specs.Str.{bytes_eq}
 use Rattle.bohm_types.specs.declared.cell.Cell.{Cell}
 use Rattle.bohm_types.specs.declared.cell.Cell.TheVariants.{Absent, Present}
 use Rattle.bohm_types.specs.declared.edition.Edition.{Edition}
 use Rattle.sqlite_value.specs.Order.{Row, column}
-use Rattle.sqlite_value.specs.declared.value.Value.TheVariants.{Text}
+use Rattle.sqlite_value.specs.declared.value.Value.TheVariants.{Int, Text}
 use Rattle.sqlite_value.specs.Keys.{plain}
-use Rattle.sqlite_trees.specs.Tree.{Trees, put_row, insert_entry, remove_entry}
+use Rattle.sqlite_trees.specs.Tree.{Trees, from_key, put_row, insert_entry, remove_entry}
 use Rattle.sqlite_trees.specs.View.{View, OnlyWrites}
-use Rattle.bohm_ledger.specs.Rows.{Has, head_tree, batch_tree, balance_tree, request_tree, head_row, batch_row, balance_row, request_row}
+use Rattle.bohm_ledger.specs.Rows.{Has, head_tree, batch_tree, balance_tree, request_tree, head_row, batch_row, balance_row, request_row, place_of, first_of, text_of}
 use Rattle.bohm_ledger.specs.Rules.{Look, Rules}
 use Rattle.bohm_ledger.specs.Ledgers.{HasTables, IsBalance, AreKept}
 
@@ -119,6 +119,33 @@ pub record AreLess {Defs : Type 0} (rules : Rules Defs) (bound next : ℕ) (old 
 -- whatever batches end before this place, the rows aren't theirs behind a checkpoint from the bound on
 abbrev pub AreNone : {Defs : Type 0} → Rules Defs → ℕ → ℕ → List Row → Type 0
 AreNone rules bound next rows = (checkpoint : ℕ) (bs : List (List ℕ)) → bound ≤ checkpoint → next ≡ 1 + length bs → ¬ AreKept rules checkpoint 1 1 bs rows
+
+-- a row of a batch that may leave: it has no definition, all its transactions are at or below the bound, and others follow it
+pub record IsOld {Defs : Type 0} (rules : Rules Defs) (bound next : ℕ) (row : Row) : Type 0 where
+  pub undefining : rules.is_plain (text_of row) ≡ true
+  pub below : first_of row + rules.size (text_of row) ≤ bound + 1
+  pub followed : place_of row + 1 < next
+
+-- no row is such a one
+abbrev pub AreYoung : {Defs : Type 0} → Rules Defs → ℕ → ℕ → List Row → Type 0
+AreYoung rules bound next rows = (row : Row) → Has row rows → ¬ IsOld rules bound next row
+
+-- no row before this place is
+abbrev pub AreYoungBefore : {Defs : Type 0} → Rules Defs → ℕ → ℕ → ℕ → List Row → Type 0
+AreYoungBefore rules bound next place rows = (row : Row) → Has row rows → place_of row < place → ¬ IsOld rules bound next row
+
+-- the rows are those of batches that end before this place, behind a checkpoint from the bound on
+pub record IsBatchTree {Defs : Type 0} (rules : Rules Defs) (bound next : ℕ) (rows : List Row) : Type 0 where
+  pub checkpoint : ℕ
+  pub batches : List (List ℕ)
+  pub low : bound ≤ checkpoint
+  pub placed : next ≡ 1 + length batches
+  pub kept : AreKept rules checkpoint 1 1 batches rows
+
+-- the row is the first one from a place on, or there is none
+abbrev pub IsFirstFrom : ℕ → Row → Bool → List Row → Type 0
+IsFirstFrom place row true rows = (left : List Row) × (from_key plain (Int (pos place) ∷ []) rows ≡ row ∷ left)
+IsFirstFrom place row false rows = from_key plain (Int (pos place) ∷ []) rows ≡ []
 
 -- the row has the id and is one of these, or none of them has the id
 abbrev pub Finds : List ℕ → Row → Bool → List Row → Type 0

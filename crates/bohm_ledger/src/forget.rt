@@ -1,10 +1,10 @@
 //! Taking batches behind the checkpoint out of the store.
 
-ghost use Rattle.std.specs.Prelude.{◌≡◌, ◌⊎◌, ◌<◌, ◌^◌, ◌≤◌, true, Err, OnOk, OnErr, IfOk, IfSome, IsTrue};
+ghost use Rattle.std.specs.Prelude.{◌≡◌, ◌⊎◌, ◌<◌, ◌^◌, ◌≤◌, true, Err, OnOk, OnErr, IfOk, IfSome, IsTrue, MatchOption};
 ghost use Rattle.sqlite_trees.specs.Tree.{Trees};
 ghost use Rattle.sqlite_trees.specs.View.{View, doubt, IsClean, KeepsSchema, KeepsCommitted, IsQuiet};
 ghost use Rattle.bohm_ledger.specs.Rows.{Has, batch_tree};
-ghost use Rattle.bohm_ledger.specs.Steps.{AreLess, AreNone, Forgets, IsSteady, IsStored, IsUndone, OnlyReads};
+ghost use Rattle.bohm_ledger.specs.Steps.{AreLess, AreNone, AreYoung, AreYoungBefore, Forgets, IsBatchTree, IsFirstFrom, IsSteady, IsStored, IsUndone, OnlyReads};
 
 use crate::error::Fault;
 use crate::machine::Machine;
@@ -18,6 +18,7 @@ use sqlite_value::value::ValueRef;
 fn next_batch<S: Store>(store: &mut S, row: &mut Row, place: u64) -> Result<bool, StoreError>
     requires fits { place < 2 ^ 63 }
     requires steady { IsClean (S.view store.old) → IsSteady (S.view store.old) }
+    ensures first { IfOk result (λ found. IsClean (S.view store.new) → IsFirstFrom place row.new found ((S.view store.old).trees batch_tree)) }
     ensures there { IfOk result (λ found. IsClean (S.view store.new) → found ≡ true → Has row.new ((S.view store.old).trees batch_tree)) }
     ensures same { OnOk result (IsClean (S.view store.new) → OnlyReads (S.view store.old) (S.view store.new)) }
     ensures kept { IsClean (S.view store.new) → KeepsCommitted (S.view store.old) (S.view store.new) }
@@ -43,6 +44,10 @@ fn forget_one<S: Store, M: Machine>(
     requires fits { (place < 2 ^ 63) × (bound < 2 ^ 63) × (next < 2 ^ 63) }
     requires steady { IsClean (S.view store.old) → IsSteady (S.view store.old) }
     ensures ok { OnOk result (IsClean (S.view store.new) → Forgets M.rules bound next (S.view store.old) (S.view store.new)) }
+    ensures young { IfOk result (λ it. IsClean (S.view store.new) → IsBatchTree M.rules bound next ((S.view store.old).trees batch_tree)
+        → AreYoungBefore M.rules bound next place ((S.view store.old).trees batch_tree)
+        → MatchOption it (AreYoung M.rules bound next ((S.view store.new).trees batch_tree))
+        (λ further. AreYoungBefore M.rules bound next further ((S.view store.new).trees batch_tree))) }
     ensures place { IfOk result (λ it. IfSome it (λ place. place < 2 ^ 63)) }
     ensures no_ledger { result ≡ Err Fault.NoLedger → IsClean (S.view store.new) → AreNone M.rules bound next ((S.view store.old).trees batch_tree) }
     ensures kept { IsClean (S.view store.new) → KeepsCommitted (S.view store.old) (S.view store.new) }
@@ -78,6 +83,8 @@ fn forget_all<S: Store, M: Machine>(
     requires fits { (bound < 2 ^ 63) × (next < 2 ^ 63) }
     requires steady { IsClean (S.view store.old) → IsSteady (S.view store.old) }
     ensures ok { OnOk result (IsClean (S.view store.new) → Forgets M.rules bound next (S.view store.old) (S.view store.new)) }
+    ensures young { OnOk result (IsClean (S.view store.new) → IsBatchTree M.rules bound next ((S.view store.old).trees batch_tree)
+        → AreYoung M.rules bound next ((S.view store.new).trees batch_tree)) }
     ensures no_ledger { result ≡ Err Fault.NoLedger → IsClean (S.view store.new) → AreNone M.rules bound next ((S.view store.old).trees batch_tree) }
     ensures kept { IsClean (S.view store.new) → KeepsCommitted (S.view store.old) (S.view store.new) }
     ensures schema { KeepsSchema (S.view store.old) (S.view store.new) }
@@ -105,6 +112,8 @@ pub(crate) fn forget<S: Store, M: Machine>(
     requires fits { (bound < 2 ^ 63) × (next < 2 ^ 63) }
     requires steady { IsClean (S.view store.old) → IsSteady (S.view store.old) }
     ensures ok { OnOk result (IsClean (S.view store.new) → AreLess M.rules bound next (S.view store.old).trees (S.view store.new).trees) }
+    ensures young { OnOk result (IsClean (S.view store.new) → IsBatchTree M.rules bound next ((S.view store.old).trees batch_tree)
+        → AreYoung M.rules bound next ((S.view store.new).trees batch_tree)) }
     ensures stored { OnOk result (IsClean (S.view store.new) → IsStored (S.view store.old) (S.view store.new)) }
     ensures err { OnErr result (IsClean (S.view store.new) → IsTrue (S.view store.new).is_open
         → IsUndone (S.view store.old) (S.view store.new)) }

@@ -1,14 +1,14 @@
 //! A ledger: batches in a store, and a machine that has run them.
 
-ghost use Rattle.std.specs.Prelude.{◌≡◌, ◌≢◌, ◌⊎◌, ◌++◌, ◌+◌, ◌<◌, ◌^◌, ◌≤◌, ℕ, List, [], ◌∷◌, true, false, MatchOption, IfOk, IfErr, OnOk, OnErr, IsTrue};
+ghost use Rattle.std.specs.Prelude.{◌≡◌, ◌≢◌, ◌⊎◌, ◌++◌, ◌+◌, ◌<◌, ◌^◌, ◌≤◌, ℕ, List, [], ◌∷◌, length, min, true, false, MatchOption, IfOk, IfErr, OnOk, OnErr, IsTrue};
 ghost use Rattle.sqlite_trees.specs.Tree.{Trees};
 ghost use Rattle.sqlite_trees.specs.View.{doubt, IsClean};
 ghost use Rattle.bohm_types.specs.declared.edition.Edition.{Edition as TheEdition};
-ghost use Rattle.bohm_ledger.specs.Rows.{Has, request_row};
+ghost use Rattle.bohm_ledger.specs.Rows.{Has, batch_tree, request_row};
 ghost use Rattle.bohm_ledger.specs.Rules.{origin, requests};
 ghost use Rattle.bohm_ledger.specs.Ledgers.{IsBlank, IsReady, StandsFor};
 ghost use Rattle.bohm_ledger.specs.Places.{IsAt, IsMissing};
-ghost use Rattle.bohm_ledger.specs.Steps.{IsSteady};
+ghost use Rattle.bohm_ledger.specs.Steps.{AreYoung, IsSteady};
 
 use crate::balance::replace;
 use crate::create::create;
@@ -224,6 +224,7 @@ impl<S: Store + Drop, M: Machine + Drop> Ledger<S, M> {
         if top >= LIMIT {
             return Err(Fault::Full);
         }
+        self.machine.sort_changed();
         replace(
             &mut self.store,
             &self.machine,
@@ -240,6 +241,11 @@ impl<S: Store + Drop, M: Machine + Drop> Ledger<S, M> {
     /// checkpoint, and commits. Batches with a definition stay, and the last one. The time grows
     /// with the number of batches that are looked at.
     pub fn forget_before(&mut self, sequence: u64) -> Result<(), Fault>
+        // No such batch is left.
+        ensures gone { OnOk result (IsClean (S.view self.new.store) → (bs : List (List ℕ))
+            → IsReady M.rules self.old.edition bs (S.view self.old.store)
+            self.old.place self.old.checkpoint (M.state self.old.machine) (M.saved self.old.machine)
+            → AreYoung M.rules (min sequence self.old.checkpoint) (1 + length bs) ((S.view self.new.store).trees batch_tree)) }
         ensures ready { OnOk result (IsClean (S.view self.new.store) → (bs : List (List ℕ))
             → IsReady M.rules self.old.edition bs (S.view self.old.store)
             self.old.place self.old.checkpoint (M.state self.old.machine) (M.saved self.old.machine)

@@ -132,6 +132,13 @@ pub trait Machine {
         ensures full { result ≡ Err fault_is.Full → (room self.old < rules.size batch.now)
             ⊎ (2 ^ 64 ≤ (state self.old).top + rules.size batch.now) };
 
+    /// Brings the keys that `changed` gives into ascending order, each of them once. A checkpoint
+    /// writes them in this order.
+    fn sort_changed(&mut self)
+        ensures state { state self.new ≡ state self.old }
+        ensures saved { saved self.new ≡ saved self.old }
+        ensures room { room self.new ≡ room self.old };
+
     /// Keys, among which each key is that changed since the last checkpoint.
     fn changed(&self) -> &[Key]
         ensures { (k : List ℕ) → is_among result.now k ≡ false

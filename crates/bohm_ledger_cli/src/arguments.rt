@@ -1,5 +1,9 @@
 //! What the arguments ask for.
 
+ghost use Rattle.std.specs.Prelude.{◌≡◌, ℕ, None, IfSome, option_map};
+ghost use Rattle.bohm_ledger_cli.specs.Asked.{IsRange, IsTransaction};
+ghost use Rattle.bohm_ledger_cli.specs.declared.arguments.Wish.{Wish as TheWish};
+
 use crate::options::{FIRST, NAME, SECOND, THIRD, command};
 use bohm_command::{ArgumentFault, command_line, is_given, parse_line};
 use bohm_types::{Edition, LARGEST_BATCH};
@@ -50,7 +54,10 @@ fn refused<T: Drop>(alloc: Global, why: &str) -> Result<T, ArgumentFault> {
 }
 
 /// The number of a transaction that a word names, 1 or more.
-fn transaction(word: &str) -> Option<u64> {
+fn transaction(word: &str) -> Option<u64>
+    ensures named { IfSome result (IsTransaction word.now) }
+    ensures unnamed { result ≡ None → (number : ℕ) → ¬ IsTransaction word.now number }
+{
     match word.parse::<u64>() {
         Ok(number) if number > 0 => Some(number),
         _ => None,
@@ -66,7 +73,11 @@ fn edition_of(number: u32) -> Edition {
 }
 
 /// The log that the words in front of the file ask for.
-fn read_range(from: Option<&str>, to: Option<&str>) -> Option<Wish> {
+fn read_range(from: Option<&str>, to: Option<&str>) -> Option<Wish>
+    ensures asked { IfSome result (IsRange (option_map (λ w. w.now) from.entry) (option_map (λ w. w.now) to.entry)) }
+    ensures refused { result ≡ None → (wish : TheWish)
+        → ¬ IsRange (option_map (λ w. w.now) from.entry) (option_map (λ w. w.now) to.entry) wish }
+{
     let from = match from {
         Some(word) => transaction(word)?,
         None => 1,

@@ -7,11 +7,16 @@ use sqlite_disk::{Disk, Files};
 use sqlite_pager::{Options, Pager};
 use sqlite_pool::probe_blank;
 use sqlite_store::{FileStore, OpenError, Unopened};
+use sqlite_trees::error::StoreError;
 use sqlite_trees::schema::Object;
-use sqlite_trees::store::Shape;
+use sqlite_trees::store::{Direction, Shape, Store};
 use sqlite_value::keys::Order;
+use sqlite_value::row::Row;
 use sqlite_wal::PageSize;
 use std::alloc::Global;
+
+/// How many tables a ledger has.
+const TABLES: u32 = 4;
 
 /// The bytes of a page, as SQLite has them by default.
 const PAGE_SIZE: usize = 4096;
@@ -46,7 +51,7 @@ fn unopened<D: Disk + Drop>(
     }
 }
 
-/// A store, and whether it was made.
+/// A store, and whether it is new.
 #[derive(Drop)]
 pub struct Opened<D: Disk + Drop> {
     pub store: FileStore<D>,
@@ -72,18 +77,46 @@ fn open_store<D: Disk + Drop>(
         return Err(OpenError::Io);
     }
     let unopened = unopened(alloc, files, size, schema)?;
-    let opened = if is_new {
-        unopened.create()
-    } else {
-        unopened.open()
-    };
-    match opened {
+    if is_new {
+        return created(unopened);
+    }
+    match unopened.open() {
         Ok(store) => Ok(Opened { store, is_new }),
+        // Whoever made the file may have been stopped before it had tables.
+        Err((OpenError::Refused, unopened)) => finish(alloc, unopened.close(), size, schema),
         Err((error, _)) => Err(error),
     }
 }
 
-/// Opens the store of a ledger, and makes it where the files hold none.
+/// Makes a store where its files hold none, or one that wasn't made to its end.
+fn created<D: Disk + Drop>(unopened: Unopened<D>) -> Result<Opened<D>, OpenError>
+    requires { AreUsable unopened }
+{
+    match unopened.create() {
+        Ok(store) => Ok(Opened {
+            store,
+            is_new: true,
+        }),
+        Err((error, _)) => Err(error),
+    }
+}
+
+/// Makes a store to its end, whose making was stopped. Other files are refused, and stay as they
+/// are.
+fn finish<D: Disk + Drop>(
+    alloc: Global,
+    files: Files<D>,
+    size: PageSize,
+    schema: &[Object<'_>],
+) -> Result<Opened<D>, OpenError> {
+    if !files.may_be_used() {
+        return Err(OpenError::Io);
+    }
+    created(unopened(alloc, files, size, schema)?)
+}
+
+/// Opens the store of a ledger, and makes it where the files hold none. It is new too where its
+/// tables are empty: whoever made them was stopped before the ledger was in them.
 pub fn open_ledger<D: Disk + Drop>(alloc: Global, files: Files<D>) -> Result<Opened<D>, OpenError> {
     let keyed = Shape::Index(Order { digits: 0 });
     let schema = [
@@ -108,7 +141,12 @@ pub fn open_ledger<D: Disk + Drop>(alloc: Global, files: Files<D>) -> Result<Ope
             "CREATE TABLE request(id TEXT PRIMARY KEY, place INTEGER, answer TEXT) STRICT, WITHOUT ROWID",
         ),
     ];
-    open_store(alloc, files, &schema)
+    let Opened { mut store, is_new } = open_store(alloc, files, &schema)?;
+    let is_blank = is_blank(alloc, &mut store).unwrap_or(false);
+    Ok(Opened {
+        store,
+        is_new: is_new || is_blank,
+    })
 }
 
 /// Opens the store of an archive, and makes it where the files hold none.
@@ -122,4 +160,17 @@ pub fn open_archive<D: Disk + Drop>(
         "CREATE TABLE batch(place INTEGER PRIMARY KEY, first INTEGER, entries TEXT) STRICT",
     )];
     open_store(alloc, files, &schema)
+}
+
+/// Whether no table of a ledger has a row.
+fn is_blank<S: Store>(alloc: Global, store: &mut S) -> Result<bool, StoreError> {
+    let mut row = Row::new(alloc);
+    for table in 0..TABLES {
+        row.clear();
+        store.seek(0, table, &row, Direction::Forward)?;
+        if store.next(0, &mut row)? {
+            return Ok(false);
+        }
+    }
+    Ok(true)
 }

@@ -1,12 +1,13 @@
 -- What entries do on a machine, one after another, and what they are answered.
-use Rattle.std.specs.Prelude.{◌≡◌, ℕ, ℤ, zero, suc, ◌+◌, ◌^◌, max, Bool, true, false, List, [], ◌∷◌, ◌++◌, Option, Some, None, IsSome, codes, ⊤}
+use Rattle.std.specs.Prelude.{◌≡◌, ℕ, ℤ, zero, suc, ◌+◌, ◌^◌, max, Bool, true, false, List, [], ◌∷◌, ◌++◌, Option, Some, None, IsSome, codes, length, ⊤}
 use Rattle.bohm_types.specs.declared.edition.Edition.{Edition}
+use Rattle.bohm_types.specs.Document.{Document}
 use Rattle.bohm_types.specs.Procedure.{Procedure, instance}
 use Rattle.bohm_types.specs.Txn.{Txn}
 use Rattle.bohm_txn.specs.declared.outcome.Reply.{Reply}
 use Rattle.bohm_txn.specs.Meaning.{Look, body}
 use Rattle.bohm_txn.specs.Serial.{after, reply_of}
-use Rattle.bohm_text.specs.Print.{Words, line_text, reply_words, text_of}
+use Rattle.bohm_text.specs.Print.{Words, line_text, print_doc, reply_words, text_of}
 use Rattle.bohm_entries.specs.Meaning.{Entry, Define, Call, Transaction, Definitions, defined, txns_of}
 use Rattle.bohm_entries.specs.Batches.{Defined, are_plain, called_of, count, defined_after, defined_by, definitions_with, entries_of, entry_in, id_in, is_definition, log_of, txns_in, txns_with, weight}
 use Rattle.bohm_entries.specs.Refusals.{IsEntry}
@@ -70,6 +71,19 @@ pub record IsLogOf (ds : Definitions) (words : Words) (log : List Txn) : Type 0 
   pub values : List ℤ
   pub call : IsCallOf ds words procedure keys values
   pub only : log ≡ instance procedure keys values ∷ []
+
+-- the text is that of a log of the only one of these transactions, with no store
+pub record IsPrinted (text : List ℕ) (ts : List Txn) : Type 0 where
+  pub document : Document
+  pub one : length document.log ≡ 1
+  pub log : document.log ≡ ts
+  pub storeless : document.store ≡ []
+  pub print : text ≡ print_doc document
+
+-- the same, or no text where there is no transaction
+abbrev pub ArePrinted : Option (List ℕ) → List Txn → Type 0
+ArePrinted None ts = ts ≡ []
+ArePrinted (Some text) ts = IsPrinted text ts
 
 -- the answers to these entries
 abbrev pub answers_by : State Defined → List (List (List ℕ)) → List (List ℕ)

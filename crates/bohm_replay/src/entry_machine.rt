@@ -1,16 +1,16 @@
 //! The machine of a ledger's entries.
 
-ghost use Rattle.std.specs.Prelude.{◌≡◌, ◌≢◌, ◌⊎◌, ◌∷◌, ◌++◌, ◌+◌, ◌-◌, ◌<◌, ◌≤◌, ◌^◌, [], Err, Ok, IfOk, IsSome, OnOk, length};
+ghost use Rattle.std.specs.Prelude.{◌≡◌, ◌≢◌, ◌⊎◌, ◌∷◌, ◌++◌, ◌+◌, ◌-◌, ◌<◌, ◌≤◌, ◌^◌, [], Err, Ok, IfOk, IsSome, OnOk, length, option_map};
 ghost use Rattle.bohm_types.specs.Txn.{Txn};
 ghost use Rattle.bohm_txn.specs.Serial.{after};
 ghost use Rattle.bohm_text.specs.Cut.{whole_lines};
-ghost use Rattle.bohm_entries.specs.Batches.{called_of, define_of, definitions_with, entries_of, entry_by_kind, entry_in, id_in, named, transaction_of, weight, weight_of};
+ghost use Rattle.bohm_entries.specs.Batches.{called_of, define_of, definitions_with, entries_of, entry_by_kind, entry_in, id_in, named, transaction_of, txns_in, txns_with, weight, weight_of};
 ghost use Rattle.bohm_entries.specs.Refusals.{Calls as IsCalling, HasForm, IsDefinition, IsEntry, IsTransaction, Refuses, Says};
 ghost use Rattle.bohm_entries.specs.declared.refusal.EntryFault.TheVariants as fault_is;
 ghost use Rattle.bohm_entries.specs.declared.refusal.Refusal.{Refusal as TheRefusal};
 ghost use Rattle.bohm_ledger.specs.declared.error.MachineFault.TheVariants as machine_is;
 ghost use Rattle.bohm_replay.specs.declared.past.NumberFault.TheVariants as number_is;
-ghost use Rattle.bohm_replay.specs.Entries.{IsLogOf, IsRun, reply_line, request_with, state_of};
+ghost use Rattle.bohm_replay.specs.Entries.{ArePrinted, IsLogOf, IsPrinted, IsRun, reply_line, request_with, state_of};
 
 use crate::admitting::admit;
 use crate::answer_text::AnswerText;
@@ -25,7 +25,7 @@ use bohm_ledger::{Answer, Machine, MachineFault, Ran};
 use bohm_log::DrawnSeed;
 use bohm_procedures::Calls;
 use bohm_text::{Words, print_doc, split_line};
-use bohm_txn::Checked;
+use bohm_txn::{Checked, Replies};
 use bohm_types::{Cell, Edition, Key, Value};
 use std::alloc::Global;
 
@@ -39,6 +39,8 @@ pub struct EntryMachine<P: Past + Drop> {
     past: P,
     /// The number of the last transaction.
     top: u64,
+    /// The reply to the last call.
+    replies: Replies,
 }
 
 fn fault_of(fault: EntryFault) -> MachineFault
@@ -63,6 +65,7 @@ impl<P: Past + Drop> EntryMachine<P> {
             definitions: Definitions::new(alloc),
             past,
             top: 0,
+            replies: Replies::new(alloc),
         }
     }
 
@@ -75,25 +78,46 @@ impl<P: Past + Drop> EntryMachine<P> {
 
     /// The text of a log of the transaction that an entry is, a call's written out. Nothing for a
     /// definition. The time is that of reading the entry.
-    pub fn print_entry(&self, entry: &[u8]) -> Result<Option<Vec<u8>>, MachineFault> {
+    pub fn print_entry(&self, entry: &[u8]) -> Result<Option<Vec<u8>>, MachineFault>
+        ensures log { IfOk result (λ it. ArePrinted (option_map (λ t. t.items) it)
+            (txns_in (record { edition = self.now.edition; procedures = self.now.definitions }) (whole_lines entry.now))) }
+    {
         let Some((line, lines)) = split_line(entry) else {
             return Err(MachineFault::Unreadable);
         };
         let Some(first) = read_first_line(line) else {
             return Err(MachineFault::Unreadable);
         };
-        let printed = match first.kind {
-            Kind::Define => return Ok(None),
-            Kind::Call => self.call_log(first.rest)?.print(self.alloc),
-            Kind::Transaction => {
-                match read_transaction(self.alloc, self.seed, self.edition, lines) {
-                    Ok(log) => print_doc(self.alloc, log.doc()),
-                    Err(fault) => return Err(fault_of(fault)),
-                }
-            }
+        match first.kind {
+            Kind::Define => Ok(None),
+            Kind::Call => Ok(Some(self.print_call(first.rest)?)),
+            Kind::Transaction => Ok(Some(self.print_transaction(lines)?)),
+        }
+    }
+
+    /// The text of a log of the call of these words behind the kind and the id.
+    fn print_call(&self, words: Words<'_>) -> Result<Vec<u8>, MachineFault>
+        ensures log { IfOk result (λ text. IsPrinted text.items
+            (txns_with self.now.definitions (called_of self.now.definitions words.entry))) }
+    {
+        let calls = self.call_log(words)?;
+        match calls.print(self.alloc) {
+            Ok(text) => Ok(text),
+            Err(_) => Err(MachineFault::OutOfMemory),
+        }
+    }
+
+    /// The text of a log of the transaction of which these are the lines behind the first one.
+    fn print_transaction(&self, lines: &[u8]) -> Result<Vec<u8>, MachineFault>
+        ensures log { IfOk result (λ text. IsPrinted text.items
+            (txns_with self.now.definitions (transaction_of self.now.edition (whole_lines lines.now)))) }
+    {
+        let log = match read_transaction(self.alloc, self.seed, self.edition, lines) {
+            Ok(log) => log,
+            Err(fault) => return Err(fault_of(fault)),
         };
-        match printed {
-            Ok(text) => Ok(Some(text)),
+        match print_doc(self.alloc, log.doc()) {
+            Ok(text) => Ok(text),
             Err(_) => Err(MachineFault::OutOfMemory),
         }
     }
@@ -239,8 +263,23 @@ impl<P: Past + Drop> EntryMachine<P> {
         ensures room { OnOk result (P.room self.old.past ≤ P.room self.new.past + 1) }
         ensures full { result ≡ Err machine_is.Full → (P.room self.old.past ≡ 0) ⊎ (2 ^ 64 ≤ self.old.top + 1) }
     {
-        let calls = self.call_log(words)?;
-        self.transact(calls.segment())
+        if self.top == u64::MAX {
+            return Err(MachineFault::Full);
+        }
+        let number = self.top + 1;
+        let call = match read_call(self.alloc, &self.definitions, words) {
+            Ok(call) => call,
+            Err(fault) => return Err(fault_of(fault)),
+        };
+        let keys = call.arguments.keys.as_slice();
+        let values = call.arguments.values.as_slice();
+        self.past
+            .run_call(call.procedure, keys, values, &mut self.replies)?;
+        let Ok(text) = reply_text(self.alloc, number, &self.replies) else {
+            return Err(MachineFault::OutOfMemory);
+        };
+        self.top = number;
+        Ok(text)
     }
 
     /// Runs a transaction, of which these are the lines behind the first one.
@@ -418,6 +457,10 @@ impl<P: Past + Drop> Machine for EntryMachine<P> {
         } else {
             Err(MachineFault::Unreadable)
         }
+    }
+
+    fn sort_changed(&mut self) {
+        self.past.sort_changed();
     }
 
     fn changed(&self) -> &[Key] {

@@ -3,6 +3,7 @@
 ghost use Rattle.std.specs.Prelude.{◌≡◌, ◌≢◌, ◌+◌, ◌<◌, ◌≤◌, ◌^◌, ◌∷◌, [], ℕ, List, true, false, length, Err, None, Some, IfOk, OnErr, OnOk};
 ghost use Rattle.bohm_types.specs.Appending.{empty_document};
 ghost use Rattle.bohm_types.specs.Keys.{is_among, names_of, rising};
+ghost use Rattle.bohm_types.specs.Procedure.{instance};
 ghost use Rattle.bohm_types.specs.Txn.{Txn};
 ghost use Rattle.bohm_txn.specs.Meaning.{Look, body};
 ghost use Rattle.bohm_txn.specs.Serial.{after, reply_of};
@@ -10,7 +11,7 @@ ghost use Rattle.bohm_ledger.specs.Rules.{cells};
 ghost use Rattle.bohm_ledger.specs.declared.error.MachineFault.TheVariants as fault_is;
 
 use bohm_ledger::MachineFault;
-use bohm_procedures::Calls;
+use bohm_procedures::{Calls, Procedure};
 use bohm_txn::{Checked, Replies};
 use bohm_types::{Cell, Edition, Key, NoMemory, Value};
 
@@ -72,6 +73,36 @@ pub trait Past {
         ensures room { OnOk result (room self.old ≤ room self.new + 1) }
         ensures unreadable { result ≡ Err fault_is.Unreadable → 0 < length log.now.store }
         ensures full { result ≡ Err fault_is.Full → room self.old ≡ 0 };
+
+    /// Runs the call of a procedure, and puts its reply in the place of those that are there. It
+    /// fails with `Full` if there is no room. After an `Err` nothing is known of what keys hold.
+    fn run_call(
+        &mut self,
+        procedure: &Procedure,
+        keys: &[Key],
+        values: &[Value],
+        answered: &mut Replies,
+    ) -> Result<(), MachineFault>
+        requires keys { length keys.now ≡ length procedure.now.keys }
+        requires values { length values.now ≡ length procedure.now.values }
+        ensures replies { OnOk result
+            (answered.new ≡ reply_of (body (look self.old) (instance procedure.now keys.now values.now)) ∷ []) }
+        ensures look { OnOk result
+            (look self.new ≡ after (look self.old) (instance procedure.now keys.now values.now)) }
+        ensures saved { OnOk result (saved self.new ≡ saved self.old) }
+        ensures since { OnOk result (since self.new ≡ since self.old + 1) }
+        ensures past { OnOk result ((n : ℕ) → n ≤ since self.old → past self.new n ≡ past self.old n) }
+        ensures room { OnOk result (room self.old ≤ room self.new + 1) }
+        ensures readable { result ≢ Err fault_is.Unreadable }
+        ensures full { result ≡ Err fault_is.Full → room self.old ≡ 0 };
+
+    /// Brings the keys that `changed` gives into ascending order, each of them once.
+    fn sort_changed(&mut self)
+        ensures look { look self.new ≡ look self.old }
+        ensures saved { saved self.new ≡ saved self.old }
+        ensures since { since self.new ≡ since self.old }
+        ensures past { (n : ℕ) → n ≤ since self.old → past self.new n ≡ past self.old n }
+        ensures room { room self.new ≡ room self.old };
 
     /// Keys, among which each key is that changed since the last checkpoint.
     fn changed(&self) -> &[Key]

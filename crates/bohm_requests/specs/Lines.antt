@@ -1,5 +1,5 @@
 -- The lines that answer requests.
-use Rattle.std.specs.Prelude.{◌≡◌, ◌⊎◌, ℕ, ℤ, ◌+◌, ◌-◌, List, [], ◌∷◌, ◌++◌, Option, Some, None, codes, option_map, slice_get, nat_lt, ◌/◌, ◌%◌, if◌then◌else◌}
+use Rattle.std.specs.Prelude.{◌≡◌, ◌⊎◌, ℕ, ◌+◌, ◌-◌, List, [], ◌∷◌, ◌++◌, Some, codes, option_map, slice_get, nat_lt, ◌/◌, ◌%◌, if◌then◌else◌}
 use Rattle.std.specs.Fmt.{decimal}
 use Rattle.bohm_types.specs.declared.cell.Cell.{Cell}
 use Rattle.bohm_types.specs.declared.cell.Cell.TheVariants as cells

@@ -1,14 +1,17 @@
 //! A ledger that answers requests.
 
-ghost use Rattle.std.specs.Prelude.{◌≡◌, ◌⊎◌, ◌++◌, ◌≤◌, ℕ, List, [], ◌∷◌, codes, drop, IfOk, IfErr, OnOk, OnErr};
+ghost use Rattle.std.specs.Prelude.{◌≡◌, ◌⊎◌, ◌++◌, ◌+◌, ◌≤◌, ℕ, List, [], ◌∷◌, codes, drop, length, min, IfOk, IfErr, MatchOption, OnOk, OnErr};
 ghost use Rattle.sqlite_trees.specs.Tree.{Trees};
 ghost use Rattle.sqlite_trees.specs.View.{doubt, IsClean};
 ghost use Rattle.bohm_types.specs.declared.edition.Edition.{Edition as TheEdition};
 ghost use Rattle.bohm_ledger.specs.Ledgers.{IsBlank, IsReady, StandsFor};
+ghost use Rattle.bohm_ledger.specs.Places.{IsAt, IsMissing};
+ghost use Rattle.bohm_ledger.specs.Rows.{batch_tree};
+ghost use Rattle.bohm_ledger.specs.Steps.{AreYoung};
 ghost use Rattle.bohm_entries.specs.Batches.{entries_of};
 ghost use Rattle.bohm_replay.specs.Entries.{answers_by, entry_rules};
 ghost use Rattle.bohm_requests.specs.Lines.{AreLines, numbered_words};
-ghost use Rattle.bohm_requests.specs.Taking.{TakesFrom};
+ghost use Rattle.bohm_requests.specs.Taking.{IsTaken, TakesFrom};
 ghost use Rattle.bohm_requests.specs.Desks.{batches_of};
 
 use crate::answering::put_lines;
@@ -53,14 +56,19 @@ pub struct RequestDesk<S: Store + Drop> {
 }
 
 impl<S: Store + Drop> RequestDesk<S> {
-    fn new(alloc: Global, ledger: Ledger<S, DeskMachine>, most: usize) -> RequestDesk<S>
+    fn new(
+        alloc: Global,
+        seed: DrawnSeed,
+        ledger: Ledger<S, DeskMachine>,
+        most: usize,
+    ) -> RequestDesk<S>
         ensures { result.ledger ≡ ledger }
     {
         RequestDesk {
             alloc,
             ledger,
             most,
-            waiting: Waiting::none(alloc),
+            waiting: Waiting::none(alloc, seed),
             recent: Recent::none(alloc),
         }
     }
@@ -84,7 +92,7 @@ impl<S: Store + Drop> RequestDesk<S> {
         };
         let machine = EntryMachine::new(alloc, seed, past);
         match Ledger::create(alloc, store, machine, edition) {
-            Ok(ledger) => Ok(RequestDesk::new(alloc, ledger, most)),
+            Ok(ledger) => Ok(RequestDesk::new(alloc, seed, ledger, most)),
             Err((fault, store)) => Err((DeskFault::Ledger(fault), store)),
         }
     }
@@ -112,7 +120,7 @@ impl<S: Store + Drop> RequestDesk<S> {
         };
         let machine = EntryMachine::new(alloc, seed, past);
         match Ledger::open(alloc, store, machine) {
-            Ok(ledger) => Ok(RequestDesk::new(alloc, ledger, most)),
+            Ok(ledger) => Ok(RequestDesk::new(alloc, seed, ledger, most)),
             Err((fault, store)) => Err((DeskFault::Ledger(fault), store)),
         }
     }
@@ -182,19 +190,45 @@ impl<S: Store + Drop> RequestDesk<S> {
     /// Takes the batches out of the store whose transactions are all at or below this one and the
     /// checkpoint, but for those with a definition and the last one.
     pub fn forget_before(&mut self, sequence: u64) -> Result<(), DeskFault>
+        // No such batch is left.
+        ensures gone { OnOk result (IsClean (S.view self.new.ledger.store) → (bs : List (List ℕ))
+            → IsReady entry_rules self.old.ledger.edition bs (S.view self.old.ledger.store) self.old.ledger.place self.old.ledger.checkpoint
+            (⟦<DeskMachine as Machine>⟧.state self.old.ledger.machine) (⟦<DeskMachine as Machine>⟧.saved self.old.ledger.machine)
+            → AreYoung entry_rules (min sequence self.old.ledger.checkpoint) (1 + length bs) ((S.view self.new.ledger.store).trees batch_tree)) }
         ensures ready { OnOk result (IsClean (S.view self.new.ledger.store) → (bs : List (List ℕ))
             → IsReady entry_rules self.old.ledger.edition bs (S.view self.old.ledger.store) self.old.ledger.place self.old.ledger.checkpoint
             (⟦<DeskMachine as Machine>⟧.state self.old.ledger.machine) (⟦<DeskMachine as Machine>⟧.saved self.old.ledger.machine)
             → IsReady entry_rules self.old.ledger.edition bs (S.view self.new.ledger.store) self.new.ledger.place self.new.ledger.checkpoint
             (⟦<DeskMachine as Machine>⟧.state self.new.ledger.machine) (⟦<DeskMachine as Machine>⟧.saved self.new.ledger.machine)) }
         ensures edition { self.new.ledger.edition ≡ self.old.ledger.edition }
+        ensures clean { doubt (S.view self.old.ledger.store).is_clean ≤ doubt (S.view self.new.ledger.store).is_clean }
+
+        // A crash at any moment of the call leaves the same batches.
+        ensures any_moment { IsClean (S.view self.new.ledger.store) → (bs : List (List ℕ))
+            → IsReady entry_rules self.old.ledger.edition bs (S.view self.old.ledger.store) self.old.ledger.place self.old.ledger.checkpoint
+            (⟦<DeskMachine as Machine>⟧.state self.old.ledger.machine) (⟦<DeskMachine as Machine>⟧.saved self.old.ledger.machine)
+            → (db : Trees) → S.recovers self.new.ledger.store db → StandsFor entry_rules self.old.ledger.edition bs db }
     {
         self.ledger.forget_before(sequence)?;
         Ok(())
     }
 
-    /// The text of the batch that has this place, if it is there and was not taken out.
-    pub fn batch_at(&mut self, place: u64) -> Result<Option<Vec<u8>>, DeskFault> {
+    /// The text of the batch that has this place, the first of them 1, if there is one that wasn't
+    /// taken out. The time is that of one search, and grows with the text.
+    pub fn batch_at(&mut self, place: u64) -> Result<Option<Vec<u8>>, DeskFault>
+        ensures found { IfOk result (λ it. IsClean (S.view self.new.ledger.store) → (bs : List (List ℕ))
+            → IsReady entry_rules self.old.ledger.edition bs (S.view self.old.ledger.store) self.old.ledger.place self.old.ledger.checkpoint
+            (⟦<DeskMachine as Machine>⟧.state self.old.ledger.machine) (⟦<DeskMachine as Machine>⟧.saved self.old.ledger.machine)
+            → MatchOption it (IsMissing entry_rules self.old.ledger.checkpoint place 1 1 bs) (λ text. IsAt place 1 text.items bs)) }
+        ensures ready { IsClean (S.view self.new.ledger.store) → OnOk result ((bs : List (List ℕ))
+            → IsReady entry_rules self.old.ledger.edition bs (S.view self.old.ledger.store) self.old.ledger.place self.old.ledger.checkpoint
+            (⟦<DeskMachine as Machine>⟧.state self.old.ledger.machine) (⟦<DeskMachine as Machine>⟧.saved self.old.ledger.machine)
+            → IsReady entry_rules self.old.ledger.edition bs (S.view self.new.ledger.store) self.new.ledger.place self.new.ledger.checkpoint
+            (⟦<DeskMachine as Machine>⟧.state self.new.ledger.machine) (⟦<DeskMachine as Machine>⟧.saved self.new.ledger.machine)) }
+        ensures edition { self.new.ledger.edition ≡ self.old.ledger.edition }
+        ensures clean { doubt (S.view self.old.ledger.store).is_clean ≤ doubt (S.view self.new.ledger.store).is_clean }
+        ensures any_moment { (db : Trees) → S.recovers self.new.ledger.store db → S.recovers self.old.ledger.store db }
+    {
         Ok(self.ledger.batch_at(place)?)
     }
 
@@ -341,14 +375,48 @@ impl<S: Store + Drop> RequestDesk<S> {
         Ok(taken)
     }
 
-    /// Answers a text as one entry that isn't whole: the input ended.
+    /// Answers a text as one request, which isn't whole: the input ended. After an `Err` nothing is
+    /// appended.
     pub fn answer_rest<A: Archives>(
         &mut self,
         archives: &mut A,
         text: &[u8],
         out: &mut Vec<u8>,
     ) -> Result<(), DeskFault>
+        // The text has a turn, and is the commit's text if it is stored.
+        ensures taken { OnOk result (IsTaken text.now [] [] self.new.waiting.turns.items self.new.waiting.batch.items) }
+
+        // It is answered as its turn says.
+        ensures lines { OnOk result ((answers : List ℕ) × (out.new.items ≡ out.old.items ++ answers)
+            × AreLines self.new.ledger.machine.past.machine self.new.ledger.machine.top
+            (answers_by (⟦<DeskMachine as Machine>⟧.state self.old.ledger.machine) (entries_of self.new.waiting.batch.items))
+            (answers_by (⟦<DeskMachine as Machine>⟧.state self.old.ledger.machine) (entries_of self.new.waiting.batch.items))
+            self.new.waiting.turns.items answers) }
+
+        // The ledger holds the commit then, and the machine has run it.
+        ensures stored { OnOk result (IsClean (S.view self.new.ledger.store) → (bs : List (List ℕ))
+            → IsReady entry_rules self.old.ledger.edition bs (S.view self.old.ledger.store) self.old.ledger.place self.old.ledger.checkpoint
+            (⟦<DeskMachine as Machine>⟧.state self.old.ledger.machine) (⟦<DeskMachine as Machine>⟧.saved self.old.ledger.machine)
+            → IsReady entry_rules self.old.ledger.edition (bs ++ batches_of self.new.waiting.batch.items) (S.view self.new.ledger.store)
+            self.new.ledger.place self.new.ledger.checkpoint
+            (⟦<DeskMachine as Machine>⟧.state self.new.ledger.machine) (⟦<DeskMachine as Machine>⟧.saved self.new.ledger.machine)) }
+
+        // Each crash from then on leaves it.
+        ensures durable { OnOk result (IsClean (S.view self.new.ledger.store) → (bs : List (List ℕ))
+            → IsReady entry_rules self.old.ledger.edition bs (S.view self.old.ledger.store) self.old.ledger.place self.old.ledger.checkpoint
+            (⟦<DeskMachine as Machine>⟧.state self.old.ledger.machine) (⟦<DeskMachine as Machine>⟧.saved self.old.ledger.machine)
+            → (db : Trees) → S.recovers self.new.ledger.store db
+            → (self.new.waiting.batch.items ≡ []) ⊎ StandsFor entry_rules self.old.ledger.edition (bs ++ batches_of self.new.waiting.batch.items) db) }
         ensures unanswered { OnErr result (out.new.items ≡ out.old.items) }
+
+        // A crash at any moment of the call leaves what it could have left before, the batches from
+        // before it, or these and the commit.
+        ensures any_moment { IsClean (S.view self.new.ledger.store) → (bs : List (List ℕ))
+            → IsReady entry_rules self.old.ledger.edition bs (S.view self.old.ledger.store) self.old.ledger.place self.old.ledger.checkpoint
+            (⟦<DeskMachine as Machine>⟧.state self.old.ledger.machine) (⟦<DeskMachine as Machine>⟧.saved self.old.ledger.machine)
+            → (db : Trees) → S.recovers self.new.ledger.store db
+            → S.recovers self.old.ledger.store db ⊎ (StandsFor entry_rules self.old.ledger.edition bs db
+            ⊎ StandsFor entry_rules self.old.ledger.edition (bs ++ batches_of self.new.waiting.batch.items) db) }
     {
         self.waiting.clear();
         self.take(archives, text)?;

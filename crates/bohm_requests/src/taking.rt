@@ -4,9 +4,10 @@ ghost use Rattle.std.specs.Prelude.{◌≡◌, ◌≤◌, ℕ, List, false, IfOk
 ghost use Rattle.sqlite_trees.specs.Tree.{Trees};
 ghost use Rattle.sqlite_trees.specs.View.{doubt, IsClean};
 ghost use Rattle.bohm_ledger.specs.Ledgers.{IsReady};
+ghost use Rattle.bohm_ledger.specs.Rules.{origin, requests};
 ghost use Rattle.bohm_replay.specs.Entries.{entry_rules};
 ghost use Rattle.bohm_requests.specs.Taking.{IsTaken, is_stored};
-ghost use Rattle.bohm_requests.specs.Knowing.{IsNoEntry};
+ghost use Rattle.bohm_requests.specs.Knowing.{IsKnown, IsNoEntry};
 
 use crate::archives::Archives;
 use crate::desk::{DeskMachine, RequestDesk};
@@ -179,6 +180,10 @@ impl<S: Store + Drop> RequestDesk<S> {
         entry: &[u8],
     ) -> Result<Known, DeskFault>
         ensures turn { IfOk result IsNoEntry }
+        ensures known { IfOk result (λ it. IsClean (S.view self.new.ledger.store) → (bs : List (List ℕ))
+            → IsReady entry_rules self.old.ledger.edition bs (S.view self.old.ledger.store) self.old.ledger.place self.old.ledger.checkpoint
+            (⟦<DeskMachine as Machine>⟧.state self.old.ledger.machine) (⟦<DeskMachine as Machine>⟧.saved self.old.ledger.machine)
+            → IsKnown (requests entry_rules 1 (origin entry_rules self.old.ledger.edition) bs) id.now it) }
         ensures waiting { self.new.waiting ≡ self.old.waiting }
         ensures machine { self.new.ledger.machine ≡ self.old.ledger.machine }
         ensures edition { self.new.ledger.edition ≡ self.old.ledger.edition }

@@ -4,9 +4,10 @@ ghost use Rattle.std.specs.Prelude.{◌≡◌, ◌++◌, ◌∷◌, [], ℕ, Lis
 ghost use Rattle.bohm_requests.specs.Taking.{IsTaken, is_stored};
 
 use crate::turn::Turn;
+use bohm_log::{DrawnSeed, HashSeed};
 use bohm_types::NoMemory;
 use std::alloc::Global;
-use std::collections::BTreeMap;
+use std::collections::HashMap;
 
 /// Where an entry of the next commit is in its text, and which one it is.
 #[derive(Clone, Copy, Debug)]
@@ -29,13 +30,14 @@ pub(crate) struct Waiting {
     /// How each request is answered.
     turns: Vec<Turn>,
     /// The entries that carry an id, by their ids.
-    ids: BTreeMap<Vec<u8>, Span>,
+    ids: HashMap<Vec<u8>, Span, HashSeed>,
     /// Whether no request may be added: what follows depends on the commit.
     is_closed: bool,
 }
 
 impl Waiting {
-    pub(crate) fn none(alloc: Global) -> Waiting
+    /// No request. Ids are hashed with the seed.
+    pub(crate) fn none(alloc: Global, seed: DrawnSeed) -> Waiting
         ensures batch { result.batch.items ≡ [] }
         ensures turns { result.turns.items ≡ [] }
     {
@@ -45,7 +47,7 @@ impl Waiting {
             entries: 0,
             transactions: 0,
             turns: Vec::new(alloc),
-            ids: BTreeMap::new(alloc),
+            ids: HashMap::with_hasher(alloc, HashSeed::from(seed)),
             is_closed: false,
         }
     }

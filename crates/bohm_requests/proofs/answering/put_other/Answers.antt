@@ -1,4 +1,4 @@
-use Rattle.std.proofs.Common.{◌≡◌, refl}
+use Rattle.std.proofs.Common.{refl}
 use Rattle.bohm_requests.proofs.Walking.{on_ok}
 use Rattle.bohm_requests.proofs.answering.put_other.Goals as goal
 

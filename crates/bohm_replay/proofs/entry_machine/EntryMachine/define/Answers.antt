@@ -1,4 +1,4 @@
-use Rattle.std.proofs.Common.{◌≡◌, ap, subst, Err}
+use Rattle.std.proofs.Common.{◌≡◌, ap, Err}
 use Rattle.bohm_ledger.specs.declared.error.MachineFault.TheVariants as machine_is
 use Rattle.bohm_replay.proofs.Admitted as lemma
 use Rattle.bohm_replay.proofs.entry_machine.EntryMachine.define.Goals as goal

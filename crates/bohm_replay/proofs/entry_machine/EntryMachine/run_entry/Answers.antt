@@ -1,4 +1,4 @@
-use Rattle.std.proofs.Common.{◌≡◌, sym, ◌∙◌}
+use Rattle.std.proofs.Common.{sym, ◌∙◌}
 use Rattle.std.proofs.lemmas.Result.{err_from_is_err_and}
 use Rattle.bohm_replay.proofs.Admitted as lemma
 use Rattle.bohm_replay.proofs.entry_machine.EntryMachine.run_entry.Goals as goal

@@ -1,4 +1,4 @@
-use Rattle.std.proofs.Common.{◌≡◌, sym, arith}
+use Rattle.std.proofs.Common.{sym, arith}
 use Rattle.sqlite_trees.specs.View.{IsClean}
 use Rattle.bohm_requests.proofs.Committing as lemma
 use Rattle.bohm_requests.proofs.desk.RequestDesk.answer.Goals as goal

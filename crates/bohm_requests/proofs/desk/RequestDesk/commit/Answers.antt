@@ -1,4 +1,4 @@
-use Rattle.std.proofs.Common.{◌≡◌, ◌<◌, List, ℕ, [], length, ◌∙◌, sym, rules, arith, inl, inr}
+use Rattle.std.proofs.Common.{◌≡◌, ◌<◌, length, ◌∙◌, sym, rules, arith, inr}
 use Rattle.bohm_requests.proofs.Committing as lemma
 use Rattle.bohm_requests.proofs.desk.RequestDesk.commit.Goals as goal
 
