@@ -38,8 +38,12 @@ TRANSFER = """
 """
 
 
-def opened(store="a 0\nheld 1000000\n", top=0):
-    return bohm.Machine("log 2\n" + store, top, library=LIBRARY)
+# The same with sums behind it that nobody reads: workers share its calls.
+LONG_ADD = ADD.replace("end\n", "".join(f"let $s{n} = k + k\n" for n in range(40)) + "end\n")
+
+
+def opened(store="a 0\nheld 1000000\n", top=0, workers=1):
+    return bohm.Machine("log 2\n" + store, top, workers=workers, library=LIBRARY)
 
 
 def texts(count, key="a"):
@@ -247,6 +251,12 @@ class Raised(unittest.TestCase):
     def test_interrupt(self):
         self.check(lambda: self.machine.run([self.add.call("a", 1)] * LONG), interrupted=True)
 
+    def test_workers(self):
+        for _ in range(4):
+            self.machine = opened(workers=3)
+            self.add = self.machine.prepare(LONG_ADD)
+            self.check(lambda: self.machine.run([self.add.call("a", 1)] * LONG))
+
     def test_replies_of_several(self):
         """Replies that nobody took are kept over later calls, in their order."""
         def stop(*_):
@@ -371,6 +381,70 @@ class Threads(unittest.TestCase):
         done.set()
         counter.join()
         self.assertGreater(went_on, 4)
+
+
+class Workers(unittest.TestCase):
+    """Machines with workers do what others do."""
+
+    STORE = "".join(f"k{n:02} {n}\n" for n in range(50))
+
+    def told(self, workers, count):
+        with opened(self.STORE, 7, workers) as machine:
+            add, long_add = machine.prepare(ADD), machine.prepare(LONG_ADD)
+            keys = [f"k{n * n % 50:02}" for n in range(count)]
+            told = [machine.run([long_add.call(*each) for each in zip(keys, range(count))]),
+                    machine.run([add.call("k01", 1)] * 50),
+                    machine.run_many(long_add, keys, list(range(count))),
+                    machine.run([long_add.call("none", 1), long_add.call("k02", 5)] * 20)]
+            return [list(replies) for replies in told], machine.store_at(), machine.digest(), tuple(machine.counts())[:5]
+
+    def test_every_number(self):
+        right = self.told(1, LONG // 2)
+        for workers in (2, 3, 4, 16):
+            self.assertEqual(self.told(workers, LONG // 2), right)
+
+    def test_numbers(self):
+        for workers in (0, 17, -1):
+            with self.assertRaises(ValueError):
+                opened(workers=workers)
+        with bohm.Machine.open_rows({"a": 1, "b": 2}, workers=3, library=LIBRARY) as machine:
+            add = machine.prepare(LONG_ADD)
+            self.assertEqual([reply.shows for reply in machine.run([add.call("a", 2)] * 40)], [(3 + 2 * n,) for n in range(40)])
+
+    def test_readers_between_batches(self):
+        machine = opened(workers=3)
+        add = machine.prepare(LONG_ADD)
+        seen, done = set(), threading.Event()
+
+        def read():
+            while not done.is_set():
+                seen.add(machine["a"])
+        reader = threading.Thread(target=read)
+        reader.start()
+        machine.run([add.call("a", 1)] * LONG)
+        done.set()
+        reader.join()
+        self.assertLessEqual(seen, {*range(0, LONG, BATCH), LONG})
+        machine.close()
+
+    def test_several_machines(self):
+        """Threads have a machine with workers each."""
+        told = []
+        threads = [threading.Thread(target=lambda: told.append(self.told(3, BATCH))) for _ in range(3)]
+        for thread in threads:
+            thread.start()
+        for thread in threads:
+            thread.join()
+        self.assertEqual(told, [self.told(1, BATCH)] * 3)
+
+    def test_forked_child(self):
+        machine = opened(workers=3)
+        machine.run([machine.prepare(LONG_ADD).call("a", 1)] * 100)
+        child = os.fork()
+        if not child:
+            machine.close()
+            os._exit(7)
+        self.assertEqual(os.waitstatus_to_exitcode(os.waitpid(child, 0)[1]), 7)
 
 
 class Habits(unittest.TestCase):

@@ -42,6 +42,10 @@ uint32_t proved_bohm_key_handle(bohm_calls *calls, const uint8_t *key, size_t le
 uint32_t proved_bohm_push_named(bohm_calls *calls, bohm_procedure *procedure, const uint32_t *handles, size_t handle_count, const int64_t *values, size_t value_count);
 uint32_t proved_bohm_run_calls(bohm_machine *machine, bohm_calls *calls, bohm_bytes *out);
 uint32_t proved_bohm_run_calls_held(bohm_machine *machine, bohm_calls *calls);
+uint32_t proved_bohm_share_calls(bohm_machine *machine, bohm_calls *calls, uint32_t workers);
+uint32_t proved_bohm_open_worker(bohm_machine *machine, bohm_worker *worker);
+uint32_t proved_bohm_work(bohm_worker *worker);
+uint32_t proved_bohm_finish_calls(bohm_machine *machine, bohm_calls *calls);
 uint32_t proved_bohm_clear_calls(bohm_calls *calls);
 uint32_t proved_bohm_calls_text(bohm_calls *calls, bohm_bytes *out);
 uint32_t proved_bohm_takes(bohm_calls *calls, bohm_procedure *procedure, size_t key_count, size_t value_count);
@@ -118,9 +122,11 @@ const char *bohm_status_text(uint32_t status) {
         [BOHM_WAITING] = "replies of an earlier segment were not taken yet",
         [BOHM_STOPPED] = "an allocation failed after part of the segment had run",
         [BOHM_KEPT] = "there was no room for the replies, which wait",
-        [BOHM_UNFIT] = "an edition, a statement, or a number of arguments or calls is not acceptable",
+        [BOHM_UNFIT] = "an edition, a statement, or a number of arguments, calls or workers is not acceptable",
         [BOHM_MISUSE] = "a handle or a pointer is not valid for the call",
         [BOHM_UNSORTED] = "the keys are not in rising order",
+        [BOHM_IN_ORDER] = "one worker runs these calls in less time",
+        [BOHM_SHARED] = "workers share the machine or the list, or one of them is left",
     };
     return status < sizeof texts / sizeof *texts ? texts[status] : "unknown status";
 }
@@ -351,6 +357,26 @@ uint32_t bohm_run_calls_held(bohm_machine *machine, const bohm_calls *calls) {
     if (!machine || !calls) return BOHM_MISUSE;
     bohm_calls held = *calls;
     return proved_bohm_run_calls_held(machine, &held);
+}
+
+uint32_t bohm_share_calls(bohm_machine *machine, bohm_calls *calls, uint32_t workers) {
+    return machine && calls ? proved_bohm_share_calls(machine, calls, workers) : BOHM_MISUSE;
+}
+
+uint32_t bohm_open_worker(bohm_machine *machine, bohm_worker *worker) {
+    return machine && worker ? proved_bohm_open_worker(machine, worker) : BOHM_MISUSE;
+}
+
+uint32_t bohm_work(bohm_worker *worker) {
+    return worker ? proved_bohm_work(worker) : BOHM_MISUSE;
+}
+
+void bohm_close_worker(bohm_worker *worker) {
+    if (worker) proved_bohm_close(worker);
+}
+
+uint32_t bohm_finish_calls(bohm_machine *machine, bohm_calls *calls) {
+    return machine && calls ? proved_bohm_finish_calls(machine, calls) : BOHM_MISUSE;
 }
 
 uint32_t bohm_calls_text(const bohm_calls *calls, bohm_bytes *out) {

@@ -2,6 +2,7 @@ pub mod Reading
 pub mod Keeping
 pub mod Codes
 pub mod Listed
+pub mod Sharing
 pub mod Calling
 pub mod CallCodes
 pub mod Rows

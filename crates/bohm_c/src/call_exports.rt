@@ -7,7 +7,7 @@ ghost use Rattle.bohm_machine.specs.Segments.{IsRefused};
 ghost use Rattle.bohm_machine.specs.declared.fault.SegmentFault.TheVariants as segment_is;
 ghost use Rattle.bohm_procedures.specs.Accepting.{Takes};
 ghost use Rattle.bohm_c.specs.Calling.{IsPushed};
-ghost use Rattle.bohm_c.specs.Handles.{IsCallList, IsMachine, IsProcedure};
+ghost use Rattle.bohm_c.specs.Handles.{AreShared, HasCalls, HasMachine, IsLent, IsProcedure};
 ghost use Rattle.bohm_c.specs.Handles.{OnCalls, OnMachine, OnProcedure};
 ghost use Rattle.bohm_c.specs.Keeping.{IsRunKept, IsRunPartly, IsRunWhole};
 
@@ -15,16 +15,20 @@ use crate::call_list::PushFault;
 use crate::handle::{BohmHandle, put_back, take_back};
 use crate::kept::Kept;
 use crate::key_fault::KeyFault;
-use crate::status::{DONE, KEPT, MISUSE, NO_KEY, NO_MEMORY, STOPPED, TIMESTAMPS, UNFIT, WAITING};
+use crate::status::{
+    DONE, KEPT, MISUSE, NO_KEY, NO_MEMORY, SHARED, STOPPED, TIMESTAMPS, UNFIT, WAITING,
+};
 use std::alloc::Global;
 
 /// Adds the call of a procedure to a list; `MISUSE` if either is something else.
 fn push_on(calls: &mut Kept, procedure: &Kept, keys: &[&[u8]], values: &[i64]) -> u32
     ensures status { (result ≡ DONE) ⊎ (result ≡ NO_MEMORY) ⊎ (result ≡ NO_KEY)
         ⊎ (result ≡ UNFIT)
-        ⊎ (result ≡ MISUSE) }
+        ⊎ (result ≡ MISUSE) ⊎ (result ≡ SHARED) }
     ensures misuse { (result ≡ MISUSE)
-        ↔ ¬ (IsCallList (Some calls.old) × IsProcedure (Some procedure.now)) }
+        ↔ ¬ (HasCalls (Some calls.old) × IsProcedure (Some procedure.now)) }
+    ensures shared { (result ≡ SHARED)
+        ↔ (IsLent (Some calls.old) × IsProcedure (Some procedure.now)) }
     ensures done { result ≡ DONE → OnProcedure (Some procedure.now) (λ p.
         OnCalls (Some calls.old) (λ was.
         OnCalls (Some calls.new) (λ now.
@@ -41,14 +45,15 @@ fn push_on(calls: &mut Kept, procedure: &Kept, keys: &[&[u8]], values: &[i64]) -
     let Kept::Prepared(procedure) = procedure else {
         return MISUSE;
     };
-    let Kept::Calls(list) = calls else {
-        return MISUSE;
-    };
-    match list.push(procedure, keys, values) {
-        Ok(()) => DONE,
-        Err(PushFault::Unfit) => UNFIT,
-        Err(PushFault::Key(KeyFault::NoKey)) => NO_KEY,
-        Err(PushFault::Key(KeyFault::NoMemory)) => NO_MEMORY,
+    match calls {
+        Kept::Calls(list) => match list.push(procedure, keys, values) {
+            Ok(()) => DONE,
+            Err(PushFault::Unfit) => UNFIT,
+            Err(PushFault::Key(KeyFault::NoKey)) => NO_KEY,
+            Err(PushFault::Key(KeyFault::NoMemory)) => NO_MEMORY,
+        },
+        Kept::Lent => SHARED,
+        Kept::Machine(_) | Kept::Prepared(_) | Kept::Shared(_) | Kept::Worker(_) => MISUSE,
     }
 }
 
@@ -64,9 +69,11 @@ pub extern "C" fn bohm_push(
     ensures same { procedure.new.value ≡ procedure.old.value }
     ensures status { (result ≡ DONE) ⊎ (result ≡ NO_MEMORY) ⊎ (result ≡ NO_KEY)
         ⊎ (result ≡ UNFIT)
-        ⊎ (result ≡ MISUSE) }
+        ⊎ (result ≡ MISUSE) ⊎ (result ≡ SHARED) }
     ensures misuse { (result ≡ MISUSE)
-        ↔ ¬ (IsCallList calls.old.value × IsProcedure procedure.old.value) }
+        ↔ ¬ (HasCalls calls.old.value × IsProcedure procedure.old.value) }
+    ensures shared { (result ≡ SHARED)
+        ↔ (IsLent calls.old.value × IsProcedure procedure.old.value) }
     ensures done { result ≡ DONE → OnProcedure procedure.old.value (λ p.
         OnCalls calls.old.value (λ was.
         OnCalls calls.new.value (λ now.
@@ -99,9 +106,10 @@ pub extern "C" fn bohm_push(
 fn run_on<'a>(machine: &mut Kept, alloc: Global, calls: &Kept, out: &mut &'a mut [u8]) -> u32
     ensures status { (result ≡ DONE) ⊎ (result ≡ TIMESTAMPS) ⊎ (result ≡ WAITING)
         ⊎ (result ≡ STOPPED) ⊎ (result ≡ KEPT)
-        ⊎ (result ≡ MISUSE) }
+        ⊎ (result ≡ MISUSE) ⊎ (result ≡ SHARED) }
     ensures misuse { (result ≡ MISUSE)
-        ↔ ¬ (IsMachine (Some machine.old) × IsCallList (Some calls.now)) }
+        ↔ ¬ (HasMachine (Some machine.old) × HasCalls (Some calls.now)) }
+    ensures shared { (result ≡ SHARED) ↔ AreShared (Some machine.old) (Some calls.now) }
     ensures done { result ≡ DONE → OnMachine (Some machine.old) (λ was.
         OnMachine (Some machine.new) (λ now.
         OnCalls (Some calls.now) (λ list. IsRunWhole was now list.calls out.new.now))) }
@@ -121,13 +129,18 @@ fn run_on<'a>(machine: &mut Kept, alloc: Global, calls: &Kept, out: &mut &'a mut
         → machine.new ≡ machine.old }
     ensures untouched { result ≢ DONE → result ≢ STOPPED → out.new ≡ out.old }
 {
-    let Kept::Calls(list) = calls else {
-        return MISUSE;
-    };
-    let Kept::Machine(session) = machine else {
-        return MISUSE;
-    };
-    session.run_calls(alloc, list, out)
+    match machine {
+        Kept::Machine(session) => match calls {
+            Kept::Calls(list) => session.run_calls(alloc, list, out),
+            Kept::Lent => SHARED,
+            Kept::Machine(_) | Kept::Prepared(_) | Kept::Shared(_) | Kept::Worker(_) => MISUSE,
+        },
+        Kept::Shared(_) => match calls {
+            Kept::Calls(_) | Kept::Lent => SHARED,
+            Kept::Machine(_) | Kept::Prepared(_) | Kept::Shared(_) | Kept::Worker(_) => MISUSE,
+        },
+        Kept::Prepared(_) | Kept::Calls(_) | Kept::Lent | Kept::Worker(_) => MISUSE,
+    }
 }
 
 /// Runs the calls as a segment, and returns the text of its replies, numbered on from the top. The
@@ -142,9 +155,10 @@ pub extern "C" fn bohm_run_calls<'a>(
     ensures same { calls.new.value ≡ calls.old.value }
     ensures status { (result ≡ DONE) ⊎ (result ≡ TIMESTAMPS) ⊎ (result ≡ WAITING)
         ⊎ (result ≡ STOPPED) ⊎ (result ≡ KEPT)
-        ⊎ (result ≡ MISUSE) }
+        ⊎ (result ≡ MISUSE) ⊎ (result ≡ SHARED) }
     ensures misuse { (result ≡ MISUSE)
-        ↔ ¬ (IsMachine machine.old.value × IsCallList calls.old.value) }
+        ↔ ¬ (HasMachine machine.old.value × HasCalls calls.old.value) }
+    ensures shared { (result ≡ SHARED) ↔ AreShared machine.old.value calls.old.value }
     ensures done { result ≡ DONE → OnMachine machine.old.value (λ was.
         OnMachine machine.new.value (λ now.
         OnCalls calls.old.value (λ list. IsRunWhole was now list.calls out.new.now))) }

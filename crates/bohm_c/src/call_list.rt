@@ -1,12 +1,18 @@
 //! Lists of calls, with buffers for C's arguments.
 
-ghost use Rattle.std.specs.Prelude.{◌≡◌, ◌≢◌, ◌↔◌, [], true, length, map};
-ghost use Rattle.std.specs.Prelude.{None, Err, IfOk, OnOk, OnErr};
+ghost use Rattle.std.specs.Prelude.{◌≡◌, ◌≢◌, ◌<◌, ◌↔◌, [], true, false, length, map, take};
+ghost use Rattle.std.specs.Prelude.{None, Err, IfOk, IfErr, OnOk, OnErr};
 ghost use Rattle.std.specs.List.{Any};
 ghost use Rattle.bohm_types.specs.Appending.{with_txn};
+ghost use Rattle.bohm_types.specs.Limits.{largest_batch};
 ghost use Rattle.bohm_types.specs.Name.{key_of};
 ghost use Rattle.bohm_types.specs.Procedure.{instance};
 ghost use Rattle.bohm_log.specs.Handles.{keys_named};
+ghost use Rattle.bohm_machine.specs.Machines.{GoesOn};
+ghost use Rattle.bohm_machine.specs.Segments.{AreWholeBatches, IsRefused, IsTaken, RunsOn};
+ghost use Rattle.bohm_machine.specs.Shares.{are_shared};
+ghost use Rattle.bohm_machine.specs.declared.fault.SegmentFault.{SegmentFault};
+ghost use Rattle.bohm_machine.specs.declared.fault.ShareFault.TheVariants as share_is;
 ghost use Rattle.bohm_procedures.specs.Accepting.{Takes, TakesCounts};
 ghost use Rattle.bohm_text.specs.Print.{print_doc};
 ghost use Rattle.bohm_c.specs.Calling.{IsPushed};
@@ -17,8 +23,9 @@ ghost use Rattle.bohm_c.specs.declared.key_fault.KeyFault.TheVariants as key_is;
 use crate::handing::Text;
 use crate::key_fault::KeyFault;
 use crate::key_names::KeyNames;
+use bohm_apply::{Applied, Executors};
 use bohm_log::{DrawnSeed, SharedNames};
-use bohm_machine::Machine;
+use bohm_machine::{Machine, ShareFault, SharedCalls};
 use bohm_procedures::{Calls, KeyHandle, Procedure};
 use bohm_txn::Checked;
 use bohm_types::{Edition, Key, NoMemory, Value};
@@ -234,6 +241,55 @@ impl CallList {
         fill_values(&mut self.values, numbers)?;
         self.calls.push_named(procedure, &self.named, &self.values)?;
         Ok(())
+    }
+
+    /// Shares the calls among workers of a machine, which has them until `finish`; the list is
+    /// empty until then.
+    pub fn share(
+        &mut self,
+        alloc: Global,
+        machine: &mut Machine,
+        workers: Executors,
+    ) -> Result<SharedCalls, ShareFault>
+        ensures same { machine.new ≡ machine.old }
+        ensures shared { IfOk result
+            (λ s. s ≡ record { was = machine.old; calls = self.old.calls }) }
+        ensures taken { OnOk result (IsTaken machine.old self.old.calls) }
+        ensures left { OnOk result (self.new ≡ cleared self.old) }
+        ensures long { OnOk result (are_shared workers self.old.calls.log ≡ true) }
+        ensures store { self.old.calls.store ≡ [] }
+        ensures refused { (fault : SegmentFault) → result ≡ Err (share_is.Segment fault)
+            → IsRefused machine.old self.old.calls fault }
+        ensures in_order { result ≡ Err share_is.InOrder
+            → are_shared workers self.old.calls.log ≡ false }
+        ensures unchanged { OnErr result (self.new ≡ self.old) }
+    {
+        machine.share(alloc, &mut self.calls, workers)
+    }
+
+    /// Ends the calls that `share` shared, on the machine as it was then, and puts them back into
+    /// the list. If a worker is left, nothing happens.
+    pub fn finish(
+        &mut self,
+        alloc: Global,
+        machine: &mut Machine,
+        shared: SharedCalls,
+    ) -> Result<Applied, SharedCalls>
+        requires machine { shared.was ≡ machine.old }
+        requires store { shared.calls.store ≡ [] }
+        ensures list { OnOk result
+            (self.new ≡ record { calls = shared.calls; names = self.old.names }) }
+        ensures goes_on { IfOk result (λ a. GoesOn machine.old machine.new
+            (take (length a.replies) shared.calls.log) a.replies) }
+        ensures runs_on { IfOk result (λ a. RunsOn machine.old machine.new
+            (take (length a.replies) shared.calls.log) a.replies) }
+        ensures batches { IfOk result (λ a. 0 < length a.replies
+            → AreWholeBatches shared.calls.log largest_batch (length a.replies)) }
+        ensures early { IfErr result (λ s. s ≡ shared) }
+        ensures unchanged { OnErr result (machine.new ≡ machine.old) }
+        ensures unlisted { OnErr result (self.new ≡ self.old) }
+    {
+        machine.finish(alloc, shared, &mut self.calls)
     }
 
     /// The text of the log of the calls.

@@ -6,7 +6,7 @@ ghost use Rattle.bohm_text.specs.Print.{print_numbered};
 ghost use Rattle.bohm_machine.specs.Digests.{IsDigest};
 ghost use Rattle.bohm_machine.specs.Machines.{floor_of, past_of, top_of};
 ghost use Rattle.bohm_machine.specs.declared.fault.SegmentFault.TheVariants as segment_is;
-ghost use Rattle.bohm_c.specs.Handles.{IsMachine, OnMachine};
+ghost use Rattle.bohm_c.specs.Handles.{HasMachine, IsShared, OnMachine};
 ghost use Rattle.bohm_c.specs.Keeping.{HasCounts, HasTransactions, IsAnswer, IsDone};
 ghost use Rattle.bohm_c.specs.Keeping.{IsKept, IsOpening, IsReadable, IsSnapshot};
 ghost use Rattle.bohm_c.specs.Keeping.{IsStopped, IsTrimmed, IsUntaken, told};
@@ -20,7 +20,7 @@ use crate::reading::read;
 use crate::seeds::draw;
 use crate::session::{open, refuse, refuse_opening};
 use crate::status::{
-    DONE, FUTURE, HAS_LOG, HAS_STORE, KEPT, MISUSE, NO_KEY, NO_MEMORY, REFUSED, STOPPED,
+    DONE, FUTURE, HAS_LOG, HAS_STORE, KEPT, MISUSE, NO_KEY, NO_MEMORY, REFUSED, SHARED, STOPPED,
     TIMESTAMPS, TRIMMED, WAITING,
 };
 use bohm_types::Key;
@@ -101,8 +101,9 @@ pub extern "C" fn bohm_apply<'a>(
     ensures status { (result ≡ DONE) ⊎ (result ≡ REFUSED) ⊎ (result ≡ NO_MEMORY)
         ⊎ (result ≡ HAS_STORE)
         ⊎ (result ≡ TIMESTAMPS) ⊎ (result ≡ WAITING) ⊎ (result ≡ STOPPED) ⊎ (result ≡ KEPT)
-        ⊎ (result ≡ MISUSE) }
-    ensures misuse { (result ≡ MISUSE) ↔ ¬ IsMachine machine.old.value }
+        ⊎ (result ≡ MISUSE) ⊎ (result ≡ SHARED) }
+    ensures misuse { (result ≡ MISUSE) ↔ ¬ HasMachine machine.old.value }
+    ensures shared { (result ≡ SHARED) ↔ IsShared machine.old.value }
     ensures done { result ≡ DONE → OnMachine machine.old.value (λ was.
         OnMachine machine.new.value (λ now. IsDone was now text.now out.new.now)) }
     ensures stopped { result ≡ STOPPED → OnMachine machine.old.value (λ was.
@@ -127,7 +128,8 @@ pub extern "C" fn bohm_apply<'a>(
     };
     let status = match &mut *kept {
         Kept::Machine(session) => session.apply(alloc, text, out),
-        Kept::Prepared(_) | Kept::Calls(_) => MISUSE,
+        Kept::Shared(_) => SHARED,
+        Kept::Prepared(_) | Kept::Calls(_) | Kept::Lent | Kept::Worker(_) => MISUSE,
     };
     put_back(machine, kept);
     status
@@ -140,8 +142,10 @@ pub extern "C" fn bohm_replies<'a>(
     machine: &mut BohmHandle,
     out: &mut &'a mut [u8],
 ) -> u32
-    ensures status { (result ≡ DONE) ⊎ (result ≡ NO_MEMORY) ⊎ (result ≡ MISUSE) }
-    ensures misuse { (result ≡ MISUSE) ↔ ¬ IsMachine machine.old.value }
+    ensures status { (result ≡ DONE) ⊎ (result ≡ NO_MEMORY)
+        ⊎ (result ≡ MISUSE) ⊎ (result ≡ SHARED) }
+    ensures misuse { (result ≡ MISUSE) ↔ ¬ HasMachine machine.old.value }
+    ensures shared { (result ≡ SHARED) ↔ IsShared machine.old.value }
     ensures done { result ≡ DONE → OnMachine machine.old.value (λ was.
         OnMachine machine.new.value (λ now. (now.machine ≡ was.machine) × (now.waiting ≡ [])
         × (now.single ≡ was.single))) }
@@ -155,7 +159,8 @@ pub extern "C" fn bohm_replies<'a>(
     };
     let status = match &mut *kept {
         Kept::Machine(session) => session.replies(alloc, out),
-        Kept::Prepared(_) | Kept::Calls(_) => MISUSE,
+        Kept::Shared(_) => SHARED,
+        Kept::Prepared(_) | Kept::Calls(_) | Kept::Lent | Kept::Worker(_) => MISUSE,
     };
     put_back(machine, kept);
     status
@@ -173,8 +178,9 @@ pub extern "C" fn bohm_value_at(
 ) -> u32
     ensures same { machine.new.value ≡ machine.old.value }
     ensures status { (result ≡ DONE) ⊎ (result ≡ TRIMMED) ⊎ (result ≡ FUTURE) ⊎ (result ≡ NO_KEY)
-        ⊎ (result ≡ MISUSE) }
-    ensures misuse { (result ≡ MISUSE) ↔ ¬ IsMachine machine.old.value }
+        ⊎ (result ≡ MISUSE) ⊎ (result ≡ SHARED) }
+    ensures misuse { (result ≡ MISUSE) ↔ ¬ HasMachine machine.old.value }
+    ensures shared { (result ≡ SHARED) ↔ IsShared machine.old.value }
     ensures done { result ≡ DONE → OnMachine machine.old.value
         (λ k. past_of k.machine ts key.now ≡ told present.new value.new) }
     ensures within { result ≡ DONE → OnMachine machine.old.value (λ k. IsReadable k.machine ts) }
@@ -194,7 +200,8 @@ pub extern "C" fn bohm_value_at(
             Some(key) => session.value_at(&key, ts, present, value),
             None => NO_KEY,
         },
-        Kept::Prepared(_) | Kept::Calls(_) => MISUSE,
+        Kept::Shared(_) => SHARED,
+        Kept::Prepared(_) | Kept::Calls(_) | Kept::Lent | Kept::Worker(_) => MISUSE,
     };
     put_back(machine, kept);
     status
@@ -212,8 +219,9 @@ pub extern "C" fn bohm_store_at<'a>(
     ensures same { machine.new.value ≡ machine.old.value }
     ensures status { (result ≡ DONE) ⊎ (result ≡ NO_MEMORY) ⊎ (result ≡ TRIMMED)
         ⊎ (result ≡ FUTURE)
-        ⊎ (result ≡ MISUSE) }
-    ensures misuse { (result ≡ MISUSE) ↔ ¬ IsMachine machine.old.value }
+        ⊎ (result ≡ MISUSE) ⊎ (result ≡ SHARED) }
+    ensures misuse { (result ≡ MISUSE) ↔ ¬ HasMachine machine.old.value }
+    ensures shared { (result ≡ SHARED) ↔ IsShared machine.old.value }
     ensures done { result ≡ DONE
         → OnMachine machine.old.value (λ k. IsSnapshot k.machine ts out.new.now) }
     ensures trimmed { result ≡ TRIMMED
@@ -228,7 +236,8 @@ pub extern "C" fn bohm_store_at<'a>(
     };
     let status = match &*kept {
         Kept::Machine(session) => session.store_at(alloc, ts, out),
-        Kept::Prepared(_) | Kept::Calls(_) => MISUSE,
+        Kept::Shared(_) => SHARED,
+        Kept::Prepared(_) | Kept::Calls(_) | Kept::Lent | Kept::Worker(_) => MISUSE,
     };
     put_back(machine, kept);
     status
@@ -246,8 +255,9 @@ pub extern "C" fn bohm_digest(
     ensures same { machine.new.value ≡ machine.old.value }
     ensures status { (result ≡ DONE) ⊎ (result ≡ NO_MEMORY) ⊎ (result ≡ TRIMMED)
         ⊎ (result ≡ FUTURE)
-        ⊎ (result ≡ MISUSE) }
-    ensures misuse { (result ≡ MISUSE) ↔ ¬ IsMachine machine.old.value }
+        ⊎ (result ≡ MISUSE) ⊎ (result ≡ SHARED) }
+    ensures misuse { (result ≡ MISUSE) ↔ ¬ HasMachine machine.old.value }
+    ensures shared { (result ≡ SHARED) ↔ IsShared machine.old.value }
     ensures done { result ≡ DONE
         → OnMachine machine.old.value (λ k. IsDigest (past_of k.machine ts) digest.new) }
     ensures within { result ≡ DONE → OnMachine machine.old.value (λ k. IsReadable k.machine ts) }
@@ -263,7 +273,8 @@ pub extern "C" fn bohm_digest(
     };
     let status = match &*kept {
         Kept::Machine(session) => session.digest(alloc, ts, digest),
-        Kept::Prepared(_) | Kept::Calls(_) => MISUSE,
+        Kept::Shared(_) => SHARED,
+        Kept::Prepared(_) | Kept::Calls(_) | Kept::Lent | Kept::Worker(_) => MISUSE,
     };
     put_back(machine, kept);
     status
@@ -272,8 +283,9 @@ pub extern "C" fn bohm_digest(
 /// Drops the past below a timestamp, if it is above the floor.
 #[unsafe(no_mangle)]
 pub extern "C" fn bohm_trim(alloc: Global, machine: &mut BohmHandle, floor: u32) -> u32
-    ensures status { (result ≡ DONE) ⊎ (result ≡ FUTURE) ⊎ (result ≡ MISUSE) }
-    ensures misuse { (result ≡ MISUSE) ↔ ¬ IsMachine machine.old.value }
+    ensures status { (result ≡ DONE) ⊎ (result ≡ FUTURE) ⊎ (result ≡ MISUSE) ⊎ (result ≡ SHARED) }
+    ensures misuse { (result ≡ MISUSE) ↔ ¬ HasMachine machine.old.value }
+    ensures shared { (result ≡ SHARED) ↔ IsShared machine.old.value }
     ensures done { result ≡ DONE → OnMachine machine.old.value (λ was.
         OnMachine machine.new.value (λ now. IsTrimmed was now floor)) }
     ensures future { result ≡ FUTURE
@@ -285,7 +297,8 @@ pub extern "C" fn bohm_trim(alloc: Global, machine: &mut BohmHandle, floor: u32)
     };
     let status = match &mut *kept {
         Kept::Machine(session) => session.trim(floor),
-        Kept::Prepared(_) | Kept::Calls(_) => MISUSE,
+        Kept::Shared(_) => SHARED,
+        Kept::Prepared(_) | Kept::Calls(_) | Kept::Lent | Kept::Worker(_) => MISUSE,
     };
     put_back(machine, kept);
     status
@@ -300,13 +313,14 @@ pub extern "C" fn bohm_timestamps(
     top: &mut u32,
 ) -> u32
     ensures same { machine.new.value ≡ machine.old.value }
-    ensures status { (result ≡ DONE) ⊎ (result ≡ MISUSE) }
-    ensures misuse { (result ≡ MISUSE) ↔ ¬ IsMachine machine.old.value }
+    ensures status { (result ≡ DONE) ⊎ (result ≡ MISUSE) ⊎ (result ≡ SHARED) }
+    ensures misuse { (result ≡ MISUSE) ↔ ¬ HasMachine machine.old.value }
+    ensures shared { (result ≡ SHARED) ↔ IsShared machine.old.value }
     ensures floor { result ≡ DONE
         → OnMachine machine.old.value (λ k. floor.new ≡ floor_of k.machine) }
     ensures top { result ≡ DONE → OnMachine machine.old.value (λ k. top.new ≡ top_of k.machine) }
-    ensures same_floor { result ≡ MISUSE → floor.new ≡ floor.old }
-    ensures same_top { result ≡ MISUSE → top.new ≡ top.old }
+    ensures same_floor { 0 < result → floor.new ≡ floor.old }
+    ensures same_top { 0 < result → top.new ≡ top.old }
 {
     let Some(kept) = take_back(alloc, machine) else {
         return MISUSE;
@@ -317,7 +331,8 @@ pub extern "C" fn bohm_timestamps(
             *top = session.machine.top();
             DONE
         }
-        Kept::Prepared(_) | Kept::Calls(_) => MISUSE,
+        Kept::Shared(_) => SHARED,
+        Kept::Prepared(_) | Kept::Calls(_) | Kept::Lent | Kept::Worker(_) => MISUSE,
     };
     put_back(machine, kept);
     status
@@ -331,8 +346,9 @@ pub extern "C" fn bohm_counts(
     counts: &mut BohmCounts,
 ) -> u32
     ensures same { machine.new.value ≡ machine.old.value }
-    ensures status { (result ≡ DONE) ⊎ (result ≡ MISUSE) }
-    ensures misuse { (result ≡ MISUSE) ↔ ¬ IsMachine machine.old.value }
+    ensures status { (result ≡ DONE) ⊎ (result ≡ MISUSE) ⊎ (result ≡ SHARED) }
+    ensures misuse { (result ≡ MISUSE) ↔ ¬ HasMachine machine.old.value }
+    ensures shared { (result ≡ SHARED) ↔ IsShared machine.old.value }
     ensures done { result ≡ DONE → OnMachine machine.old.value (λ k. HasCounts k counts.new) }
     ensures untouched { 0 < result → counts.new ≡ counts.old }
 {
@@ -344,7 +360,8 @@ pub extern "C" fn bohm_counts(
             *counts = session.counts();
             DONE
         }
-        Kept::Prepared(_) | Kept::Calls(_) => MISUSE,
+        Kept::Shared(_) => SHARED,
+        Kept::Prepared(_) | Kept::Calls(_) | Kept::Lent | Kept::Worker(_) => MISUSE,
     };
     put_back(machine, kept);
     status

@@ -4,22 +4,23 @@ ghost use Rattle.std.specs.Prelude.{◌≡◌, ◌≢◌, ◌<◌, ◌⊎◌, �
 ghost use Rattle.bohm_types.specs.Name.{key_of};
 ghost use Rattle.bohm_procedures.specs.Accepting.{Takes};
 ghost use Rattle.bohm_c.specs.Calling.{IsPushed};
-ghost use Rattle.bohm_c.specs.Handles.{IsCallList, IsProcedure, OnCalls, OnProcedure};
+ghost use Rattle.bohm_c.specs.Handles.{HasCalls, IsLent, IsProcedure, OnCalls, OnProcedure};
 ghost use Rattle.bohm_c.specs.Listed.{Knows, named_by, with_name};
 
 use crate::call_list::PushFault;
 use crate::handle::{BohmHandle, put_back, take_back};
 use crate::kept::Kept;
 use crate::key_fault::KeyFault;
-use crate::status::{DONE, MISUSE, NO_KEY, NO_MEMORY, UNFIT};
+use crate::status::{DONE, MISUSE, NO_KEY, NO_MEMORY, SHARED, UNFIT};
 use bohm_types::{Key, NoMemory};
 use std::alloc::Global;
 
 /// Makes a handle of a key in a list; `MISUSE` if it is no list.
 fn key_handle_on(calls: &mut Kept, name: &[u8], handle: &mut u32) -> u32
     ensures status { (result ≡ DONE) ⊎ (result ≡ NO_MEMORY) ⊎ (result ≡ NO_KEY)
-        ⊎ (result ≡ MISUSE) }
-    ensures misuse { (result ≡ MISUSE) ↔ ¬ IsCallList (Some calls.old) }
+        ⊎ (result ≡ MISUSE) ⊎ (result ≡ SHARED) }
+    ensures misuse { (result ≡ MISUSE) ↔ ¬ HasCalls (Some calls.old) }
+    ensures shared { (result ≡ SHARED) ↔ IsLent (Some calls.old) }
     ensures done { result ≡ DONE → OnCalls (Some calls.old) (λ was.
         OnCalls (Some calls.new) (λ now. now ≡ with_name was name.now)) }
     ensures handle { result ≡ DONE → OnCalls (Some calls.old)
@@ -29,18 +30,21 @@ fn key_handle_on(calls: &mut Kept, name: &[u8], handle: &mut u32) -> u32
     ensures unchanged { 0 < result → calls.new ≡ calls.old }
     ensures untouched { 0 < result → handle.new ≡ handle.old }
 {
-    let Kept::Calls(list) = calls else {
-        return MISUSE;
-    };
-    let Some(key) = Key::new(name) else {
-        return NO_KEY;
-    };
-    match list.handle(&key) {
-        Ok(number) => {
-            *handle = number;
-            DONE
+    match calls {
+        Kept::Calls(list) => {
+            let Some(key) = Key::new(name) else {
+                return NO_KEY;
+            };
+            match list.handle(&key) {
+                Ok(number) => {
+                    *handle = number;
+                    DONE
+                }
+                Err(NoMemory) => NO_MEMORY,
+            }
         }
-        Err(NoMemory) => NO_MEMORY,
+        Kept::Lent => SHARED,
+        Kept::Machine(_) | Kept::Prepared(_) | Kept::Shared(_) | Kept::Worker(_) => MISUSE,
     }
 }
 
@@ -54,8 +58,9 @@ pub extern "C" fn bohm_key_handle(
     handle: &mut u32,
 ) -> u32
     ensures status { (result ≡ DONE) ⊎ (result ≡ NO_MEMORY) ⊎ (result ≡ NO_KEY)
-        ⊎ (result ≡ MISUSE) }
-    ensures misuse { (result ≡ MISUSE) ↔ ¬ IsCallList calls.old.value }
+        ⊎ (result ≡ MISUSE) ⊎ (result ≡ SHARED) }
+    ensures misuse { (result ≡ MISUSE) ↔ ¬ HasCalls calls.old.value }
+    ensures shared { (result ≡ SHARED) ↔ IsLent calls.old.value }
     ensures done { result ≡ DONE → OnCalls calls.old.value (λ was.
         OnCalls calls.new.value (λ now. now ≡ with_name was name.now)) }
     ensures handle { result ≡ DONE → OnCalls calls.old.value
@@ -77,9 +82,12 @@ pub extern "C" fn bohm_key_handle(
 /// the list's.
 fn push_named_on(calls: &mut Kept, procedure: &Kept, handles: &[u32], values: &[i64]) -> u32
     ensures status { (result ≡ DONE) ⊎ (result ≡ NO_MEMORY) ⊎ (result ≡ UNFIT)
-        ⊎ (result ≡ MISUSE) }
-    ensures misuse { (result ≡ MISUSE) ↔ ¬ (OnCalls (Some calls.old)
-        (λ was. Knows was handles.now) × IsProcedure (Some procedure.now)) }
+        ⊎ (result ≡ MISUSE) ⊎ (result ≡ SHARED) }
+    ensures misuse { (result ≡ MISUSE) ↔ ¬ ((IsLent (Some calls.old)
+        ⊎ OnCalls (Some calls.old) (λ was. Knows was handles.now))
+        × IsProcedure (Some procedure.now)) }
+    ensures shared { (result ≡ SHARED)
+        ↔ (IsLent (Some calls.old) × IsProcedure (Some procedure.now)) }
     ensures done { result ≡ DONE → OnProcedure (Some procedure.now) (λ p.
         OnCalls (Some calls.old) (λ was.
         OnCalls (Some calls.new) (λ now.
@@ -92,17 +100,20 @@ fn push_named_on(calls: &mut Kept, procedure: &Kept, handles: &[u32], values: &[
     let Kept::Prepared(procedure) = procedure else {
         return MISUSE;
     };
-    let Kept::Calls(list) = calls else {
-        return MISUSE;
-    };
-    if !list.knows(handles) {
-        return MISUSE;
-    }
-    match list.push_named(procedure, handles, values) {
-        Ok(()) => DONE,
-        Err(PushFault::Unfit) => UNFIT,
-        Err(PushFault::Key(KeyFault::NoMemory)) => NO_MEMORY,
-        Err(PushFault::Key(KeyFault::NoKey)) => unreachable!(),
+    match calls {
+        Kept::Calls(list) => {
+            if !list.knows(handles) {
+                return MISUSE;
+            }
+            match list.push_named(procedure, handles, values) {
+                Ok(()) => DONE,
+                Err(PushFault::Unfit) => UNFIT,
+                Err(PushFault::Key(KeyFault::NoMemory)) => NO_MEMORY,
+                Err(PushFault::Key(KeyFault::NoKey)) => unreachable!(),
+            }
+        }
+        Kept::Lent => SHARED,
+        Kept::Machine(_) | Kept::Prepared(_) | Kept::Shared(_) | Kept::Worker(_) => MISUSE,
     }
 }
 
@@ -117,9 +128,12 @@ pub extern "C" fn bohm_push_named(
 ) -> u32
     ensures same { procedure.new.value ≡ procedure.old.value }
     ensures status { (result ≡ DONE) ⊎ (result ≡ NO_MEMORY) ⊎ (result ≡ UNFIT)
-        ⊎ (result ≡ MISUSE) }
-    ensures misuse { (result ≡ MISUSE) ↔ ¬ (OnCalls calls.old.value
-        (λ was. Knows was handles.now) × IsProcedure procedure.old.value) }
+        ⊎ (result ≡ MISUSE) ⊎ (result ≡ SHARED) }
+    ensures misuse { (result ≡ MISUSE) ↔ ¬ ((IsLent calls.old.value
+        ⊎ OnCalls calls.old.value (λ was. Knows was handles.now))
+        × IsProcedure procedure.old.value) }
+    ensures shared { (result ≡ SHARED)
+        ↔ (IsLent calls.old.value × IsProcedure procedure.old.value) }
     ensures done { result ≡ DONE → OnProcedure procedure.old.value (λ p.
         OnCalls calls.old.value (λ was.
         OnCalls calls.new.value (λ now.

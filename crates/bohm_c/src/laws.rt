@@ -7,8 +7,8 @@ ghost use Rattle.bohm_c.specs.Keeping.{IsOpening, IsSnapshot};
 ghost use Rattle.bohm_c.specs.declared.session.Session.{Session};
 
 use crate::status::{
-    DONE, FUTURE, HAS_LOG, HAS_STORE, KEPT, MISUSE, NO_KEY, NO_MEMORY, REFUSED, STOPPED,
-    TIMESTAMPS, TRIMMED, UNFIT, UNSORTED, WAITING,
+    DONE, FUTURE, HAS_LOG, HAS_STORE, IN_ORDER, KEPT, MISUSE, NO_KEY, NO_MEMORY, REFUSED, SHARED,
+    STOPPED, TIMESTAMPS, TRIMMED, UNFIT, UNSORTED, WAITING,
 };
 use bohm_text::laws::one_text;
 
@@ -30,6 +30,8 @@ pub fn status_numbers()
     ensures unfit { UNFIT ≡ 12 }
     ensures misuse { MISUSE ≡ 13 }
     ensures unsorted { UNSORTED ≡ 14 }
+    ensures in_order { IN_ORDER ≡ 15 }
+    ensures shared { SHARED ≡ 16 }
 {}
 
 /// A machine opened at another machine's top, on a snapshot of that top, holds what the other holds

@@ -26,6 +26,8 @@ mod row_exports;
 mod rows;
 mod seeds;
 mod session;
+mod share_exports;
+mod shared_session;
 mod single_calls;
 mod single_exports;
 mod status;
@@ -47,5 +49,6 @@ pub use list_exports::{
 pub use procedure_exports::{bohm_prepare, bohm_prepare_report, bohm_statement_text};
 pub use row_exports::{bohm_apply_held, bohm_rows, bohm_run_calls_held};
 pub use rows::BohmReply;
+pub use share_exports::{bohm_finish_calls, bohm_open_worker, bohm_share_calls, bohm_work};
 pub use single_exports::{bohm_call, bohm_call_named, bohm_fits, bohm_machine_key};
 pub use store_exports::{bohm_compact, bohm_open_rows, bohm_store_rows};

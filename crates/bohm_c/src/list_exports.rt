@@ -3,7 +3,8 @@
 ghost use Rattle.std.specs.Prelude.{◌≡◌, ◌≢◌, ◌<◌, ◌⊎◌, ◌↔◌, IfSome, IfNone, None, Some};
 ghost use Rattle.bohm_text.specs.Print.{print_doc};
 ghost use Rattle.bohm_procedures.specs.Accepting.{TakesCounts};
-ghost use Rattle.bohm_c.specs.Handles.{IsCallList, IsMachine, IsProcedure, OnCalls, OnProcedure};
+ghost use Rattle.bohm_c.specs.Handles.{HasCalls, HasMachine, IsLent, IsProcedure, IsShared};
+ghost use Rattle.bohm_c.specs.Handles.{OnCalls, OnProcedure};
 ghost use Rattle.bohm_c.specs.Listed.{IsNew, cleared, edition_number};
 
 use crate::call_list::CallList;
@@ -11,7 +12,7 @@ use crate::handle::{BohmHandle, put_back, take_back};
 use crate::kept::Kept;
 use crate::seeds::draw;
 use crate::session::Session;
-use crate::status::{DONE, MISUSE, NO_MEMORY, UNFIT};
+use crate::status::{DONE, MISUSE, NO_MEMORY, SHARED, UNFIT};
 use bohm_types::Edition;
 use std::alloc::Global;
 
@@ -97,9 +98,10 @@ pub extern "C" fn bohm_open_calls_for(
 ) -> u32
     ensures same { machine.new.value ≡ machine.old.value }
     ensures status { (result ≡ DONE) ⊎ (result ≡ UNFIT) ⊎ (result ≡ NO_MEMORY)
-        ⊎ (result ≡ MISUSE) }
+        ⊎ (result ≡ MISUSE) ⊎ (result ≡ SHARED) }
     ensures misuse { (result ≡ MISUSE)
-        ↔ ¬ (IsMachine machine.old.value × (calls.old.value ≡ None)) }
+        ↔ ¬ (HasMachine machine.old.value × (calls.old.value ≡ None)) }
+    ensures shared { (result ≡ SHARED) ↔ (IsShared machine.old.value × (calls.old.value ≡ None)) }
     ensures done { result ≡ DONE → OnCalls calls.new.value (IsNew edition) }
     ensures unfit { result ≡ UNFIT → (edition ≢ 1) × (edition ≢ 2) }
     ensures unchanged { 0 < result → calls.new.value ≡ calls.old.value }
@@ -113,7 +115,8 @@ pub extern "C" fn bohm_open_calls_for(
     };
     let status = match &*kept {
         Kept::Machine(session) => open_list_of(alloc, session, calls, edition),
-        Kept::Prepared(_) | Kept::Calls(_) => MISUSE,
+        Kept::Shared(_) => SHARED,
+        Kept::Prepared(_) | Kept::Calls(_) | Kept::Lent | Kept::Worker(_) => MISUSE,
     };
     put_back(machine, kept);
     status
@@ -127,8 +130,10 @@ pub extern "C" fn bohm_calls_text<'a>(
     out: &mut &'a mut [u8],
 ) -> u32
     ensures same { calls.new.value ≡ calls.old.value }
-    ensures status { (result ≡ DONE) ⊎ (result ≡ NO_MEMORY) ⊎ (result ≡ MISUSE) }
-    ensures misuse { (result ≡ MISUSE) ↔ ¬ IsCallList calls.old.value }
+    ensures status { (result ≡ DONE) ⊎ (result ≡ NO_MEMORY)
+        ⊎ (result ≡ MISUSE) ⊎ (result ≡ SHARED) }
+    ensures misuse { (result ≡ MISUSE) ↔ ¬ HasCalls calls.old.value }
+    ensures shared { (result ≡ SHARED) ↔ IsLent calls.old.value }
     ensures done { result ≡ DONE
         → OnCalls calls.old.value (λ list. out.new.now ≡ print_doc list.calls) }
     ensures untouched { 0 < result → out.new ≡ out.old }
@@ -144,7 +149,8 @@ pub extern "C" fn bohm_calls_text<'a>(
             }
             Err(_) => NO_MEMORY,
         },
-        Kept::Machine(_) | Kept::Prepared(_) => MISUSE,
+        Kept::Lent => SHARED,
+        Kept::Machine(_) | Kept::Prepared(_) | Kept::Shared(_) | Kept::Worker(_) => MISUSE,
     };
     put_back(calls, kept);
     status
@@ -153,9 +159,11 @@ pub extern "C" fn bohm_calls_text<'a>(
 /// Whether a list takes a call with this many arguments of each kind: `DONE`, or the status that
 /// tells why not.
 fn takes_on(calls: &Kept, procedure: &Kept, keys: usize, values: usize) -> u32
-    ensures status { (result ≡ DONE) ⊎ (result ≡ UNFIT) ⊎ (result ≡ MISUSE) }
+    ensures status { (result ≡ DONE) ⊎ (result ≡ UNFIT) ⊎ (result ≡ MISUSE) ⊎ (result ≡ SHARED) }
     ensures misuse { (result ≡ MISUSE)
-        ↔ ¬ (IsCallList (Some calls.now) × IsProcedure (Some procedure.now)) }
+        ↔ ¬ (HasCalls (Some calls.now) × IsProcedure (Some procedure.now)) }
+    ensures shared { (result ≡ SHARED)
+        ↔ (IsLent (Some calls.now) × IsProcedure (Some procedure.now)) }
     ensures unfit { result ≡ UNFIT → OnProcedure (Some procedure.now) (λ p.
         OnCalls (Some calls.now) (λ was. ¬ TakesCounts was.calls p keys values)) }
     ensures done { result ≡ DONE → OnProcedure (Some procedure.now) (λ p.
@@ -164,13 +172,16 @@ fn takes_on(calls: &Kept, procedure: &Kept, keys: usize, values: usize) -> u32
     let Kept::Prepared(procedure) = procedure else {
         return MISUSE;
     };
-    let Kept::Calls(list) = calls else {
-        return MISUSE;
-    };
-    if list.takes(procedure, keys, values) {
-        DONE
-    } else {
-        UNFIT
+    match calls {
+        Kept::Calls(list) => {
+            if list.takes(procedure, keys, values) {
+                DONE
+            } else {
+                UNFIT
+            }
+        }
+        Kept::Lent => SHARED,
+        Kept::Machine(_) | Kept::Prepared(_) | Kept::Shared(_) | Kept::Worker(_) => MISUSE,
     }
 }
 
@@ -185,9 +196,11 @@ pub extern "C" fn bohm_takes(
 ) -> u32
     ensures same { calls.new.value ≡ calls.old.value }
     ensures same_procedure { procedure.new.value ≡ procedure.old.value }
-    ensures status { (result ≡ DONE) ⊎ (result ≡ UNFIT) ⊎ (result ≡ MISUSE) }
+    ensures status { (result ≡ DONE) ⊎ (result ≡ UNFIT) ⊎ (result ≡ MISUSE) ⊎ (result ≡ SHARED) }
     ensures misuse { (result ≡ MISUSE)
-        ↔ ¬ (IsCallList calls.old.value × IsProcedure procedure.old.value) }
+        ↔ ¬ (HasCalls calls.old.value × IsProcedure procedure.old.value) }
+    ensures shared { (result ≡ SHARED)
+        ↔ (IsLent calls.old.value × IsProcedure procedure.old.value) }
     ensures unfit { result ≡ UNFIT → OnProcedure procedure.old.value (λ p.
         OnCalls calls.old.value (λ was. ¬ TakesCounts was.calls p keys values)) }
     ensures done { result ≡ DONE → OnProcedure procedure.old.value (λ p.
@@ -211,8 +224,9 @@ pub extern "C" fn bohm_takes(
 /// Removes all calls of an open list. Its handles of keys stay valid.
 #[unsafe(no_mangle)]
 pub extern "C" fn bohm_clear_calls(alloc: Global, calls: &mut BohmHandle) -> u32
-    ensures status { (result ≡ DONE) ⊎ (result ≡ MISUSE) }
-    ensures misuse { (result ≡ MISUSE) ↔ ¬ IsCallList calls.old.value }
+    ensures status { (result ≡ DONE) ⊎ (result ≡ MISUSE) ⊎ (result ≡ SHARED) }
+    ensures misuse { (result ≡ MISUSE) ↔ ¬ HasCalls calls.old.value }
+    ensures shared { (result ≡ SHARED) ↔ IsLent calls.old.value }
     ensures done { result ≡ DONE → OnCalls calls.old.value (λ was.
         OnCalls calls.new.value (λ now. now ≡ cleared was)) }
     ensures unchanged { 0 < result → calls.new.value ≡ calls.old.value }
@@ -225,7 +239,8 @@ pub extern "C" fn bohm_clear_calls(alloc: Global, calls: &mut BohmHandle) -> u32
             list.clear();
             DONE
         }
-        Kept::Machine(_) | Kept::Prepared(_) => MISUSE,
+        Kept::Lent => SHARED,
+        Kept::Machine(_) | Kept::Prepared(_) | Kept::Shared(_) | Kept::Worker(_) => MISUSE,
     };
     put_back(calls, kept);
     status

@@ -111,7 +111,9 @@ pub extern "C" fn bohm_statement_text<'a>(
     };
     let status = match &*kept {
         Kept::Prepared(prepared) => state(alloc, prepared, number, line, out),
-        Kept::Machine(_) | Kept::Calls(_) => MISUSE,
+        Kept::Machine(_) | Kept::Calls(_) | Kept::Shared(_) | Kept::Lent | Kept::Worker(_) => {
+            MISUSE
+        }
     };
     put_back(procedure, kept);
     status

@@ -4,7 +4,8 @@ ghost use Rattle.std.specs.Prelude.{◌≡◌, ◌≢◌, ◌<◌, ◌⊎◌, �
 ghost use Rattle.std.specs.List.{flat_map};
 ghost use Rattle.bohm_machine.specs.Segments.{IsRefused};
 ghost use Rattle.bohm_machine.specs.declared.fault.SegmentFault.TheVariants as segment_is;
-ghost use Rattle.bohm_c.specs.Handles.{IsCallList, IsMachine, OnCalls, OnMachine};
+ghost use Rattle.bohm_c.specs.Handles.{AreShared, HasCalls, HasMachine, IsShared, OnCalls};
+ghost use Rattle.bohm_c.specs.Handles.{OnMachine};
 ghost use Rattle.bohm_c.specs.Keeping.{IsHeld, IsHeldPartly, IsRunUntold, IsUntaken};
 ghost use Rattle.bohm_c.specs.Reading.{IsRefusal};
 ghost use Rattle.bohm_c.specs.Rows.{rows_from, shows_of};
@@ -12,7 +13,9 @@ ghost use Rattle.bohm_c.specs.Rows.{rows_from, shows_of};
 use crate::handle::{BohmHandle, put_back, take_back};
 use crate::kept::Kept;
 use crate::rows::BohmReply;
-use crate::status::{DONE, HAS_STORE, MISUSE, NO_MEMORY, REFUSED, STOPPED, TIMESTAMPS, WAITING};
+use crate::status::{
+    DONE, HAS_STORE, MISUSE, NO_MEMORY, REFUSED, SHARED, STOPPED, TIMESTAMPS, WAITING,
+};
 use std::alloc::Global;
 
 /// Runs a segment, as `bohm_apply` does, and keeps its replies waiting.
@@ -26,8 +29,9 @@ pub extern "C" fn bohm_apply_held<'a>(
     ensures status { (result ≡ DONE) ⊎ (result ≡ REFUSED) ⊎ (result ≡ NO_MEMORY)
         ⊎ (result ≡ HAS_STORE)
         ⊎ (result ≡ TIMESTAMPS) ⊎ (result ≡ WAITING) ⊎ (result ≡ STOPPED)
-        ⊎ (result ≡ MISUSE) }
-    ensures misuse { (result ≡ MISUSE) ↔ ¬ IsMachine machine.old.value }
+        ⊎ (result ≡ MISUSE) ⊎ (result ≡ SHARED) }
+    ensures misuse { (result ≡ MISUSE) ↔ ¬ HasMachine machine.old.value }
+    ensures shared { (result ≡ SHARED) ↔ IsShared machine.old.value }
     ensures done { result ≡ DONE → OnMachine machine.old.value (λ was.
         OnMachine machine.new.value (λ now. IsHeld was now text.now)) }
     ensures stopped { result ≡ STOPPED → OnMachine machine.old.value (λ was.
@@ -50,7 +54,8 @@ pub extern "C" fn bohm_apply_held<'a>(
     };
     let status = match &mut *kept {
         Kept::Machine(session) => session.apply_held(alloc, text, out),
-        Kept::Prepared(_) | Kept::Calls(_) => MISUSE,
+        Kept::Shared(_) => SHARED,
+        Kept::Prepared(_) | Kept::Calls(_) | Kept::Lent | Kept::Worker(_) => MISUSE,
     };
     put_back(machine, kept);
     status
@@ -60,9 +65,10 @@ pub extern "C" fn bohm_apply_held<'a>(
 fn hold_on(machine: &mut Kept, alloc: Global, calls: &Kept) -> u32
     ensures status { (result ≡ DONE) ⊎ (result ≡ TIMESTAMPS) ⊎ (result ≡ WAITING)
         ⊎ (result ≡ STOPPED)
-        ⊎ (result ≡ MISUSE) }
+        ⊎ (result ≡ MISUSE) ⊎ (result ≡ SHARED) }
     ensures misuse { (result ≡ MISUSE)
-        ↔ ¬ (IsMachine (Some machine.old) × IsCallList (Some calls.now)) }
+        ↔ ¬ (HasMachine (Some machine.old) × HasCalls (Some calls.now)) }
+    ensures shared { (result ≡ SHARED) ↔ AreShared (Some machine.old) (Some calls.now) }
     ensures ran { (result ≡ DONE) ⊎ (result ≡ STOPPED) → OnMachine (Some machine.old) (λ was.
         OnMachine (Some machine.new) (λ now.
         OnCalls (Some calls.now) (λ list. IsRunUntold was now list.calls))) }
@@ -78,13 +84,18 @@ fn hold_on(machine: &mut Kept, alloc: Global, calls: &Kept) -> u32
         → OnMachine (Some machine.old) (λ was. was.waiting ≡ []) }
     ensures unchanged { result ≢ DONE → result ≢ STOPPED → machine.new ≡ machine.old }
 {
-    let Kept::Calls(list) = calls else {
-        return MISUSE;
-    };
-    let Kept::Machine(session) = machine else {
-        return MISUSE;
-    };
-    session.run_calls_held(alloc, list)
+    match machine {
+        Kept::Machine(session) => match calls {
+            Kept::Calls(list) => session.run_calls_held(alloc, list),
+            Kept::Lent => SHARED,
+            Kept::Machine(_) | Kept::Prepared(_) | Kept::Shared(_) | Kept::Worker(_) => MISUSE,
+        },
+        Kept::Shared(_) => match calls {
+            Kept::Calls(_) | Kept::Lent => SHARED,
+            Kept::Machine(_) | Kept::Prepared(_) | Kept::Shared(_) | Kept::Worker(_) => MISUSE,
+        },
+        Kept::Prepared(_) | Kept::Calls(_) | Kept::Lent | Kept::Worker(_) => MISUSE,
+    }
 }
 
 /// Runs calls, as `bohm_run_calls` does, and keeps their replies waiting.
@@ -97,9 +108,10 @@ pub extern "C" fn bohm_run_calls_held(
     ensures same { calls.new.value ≡ calls.old.value }
     ensures status { (result ≡ DONE) ⊎ (result ≡ TIMESTAMPS) ⊎ (result ≡ WAITING)
         ⊎ (result ≡ STOPPED)
-        ⊎ (result ≡ MISUSE) }
+        ⊎ (result ≡ MISUSE) ⊎ (result ≡ SHARED) }
     ensures misuse { (result ≡ MISUSE)
-        ↔ ¬ (IsMachine machine.old.value × IsCallList calls.old.value) }
+        ↔ ¬ (HasMachine machine.old.value × HasCalls calls.old.value) }
+    ensures shared { (result ≡ SHARED) ↔ AreShared machine.old.value calls.old.value }
     ensures ran { (result ≡ DONE) ⊎ (result ≡ STOPPED) → OnMachine machine.old.value (λ was.
         OnMachine machine.new.value (λ now.
         OnCalls calls.old.value (λ list. IsRunUntold was now list.calls))) }
@@ -139,8 +151,10 @@ pub extern "C" fn bohm_rows<'a>(
     replies: &mut &'a mut [BohmReply],
     values: &mut &'a mut [i64],
 ) -> u32
-    ensures status { (result ≡ DONE) ⊎ (result ≡ NO_MEMORY) ⊎ (result ≡ MISUSE) }
-    ensures misuse { (result ≡ MISUSE) ↔ ¬ IsMachine machine.old.value }
+    ensures status { (result ≡ DONE) ⊎ (result ≡ NO_MEMORY)
+        ⊎ (result ≡ MISUSE) ⊎ (result ≡ SHARED) }
+    ensures misuse { (result ≡ MISUSE) ↔ ¬ HasMachine machine.old.value }
+    ensures shared { (result ≡ SHARED) ↔ IsShared machine.old.value }
     ensures done { result ≡ DONE → OnMachine machine.old.value (λ was.
         OnMachine machine.new.value (λ now. (now.machine ≡ was.machine) × (now.waiting ≡ [])
         × (now.single ≡ was.single))) }
@@ -157,7 +171,8 @@ pub extern "C" fn bohm_rows<'a>(
     };
     let status = match &mut *kept {
         Kept::Machine(session) => session.rows(alloc, replies, values),
-        Kept::Prepared(_) | Kept::Calls(_) => MISUSE,
+        Kept::Shared(_) => SHARED,
+        Kept::Prepared(_) | Kept::Calls(_) | Kept::Lent | Kept::Worker(_) => MISUSE,
     };
     put_back(machine, kept);
     status

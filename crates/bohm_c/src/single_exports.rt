@@ -6,22 +6,25 @@ ghost use Rattle.bohm_types.specs.Name.{key_of};
 ghost use Rattle.bohm_log.specs.Columns.{AllNamed};
 ghost use Rattle.bohm_log.specs.Parts.{names_at};
 ghost use Rattle.bohm_c.specs.Calling.{Fits, HasNoTime};
-ghost use Rattle.bohm_c.specs.Handles.{IsMachine, IsProcedure, OnMachine, OnProcedure};
+ghost use Rattle.bohm_c.specs.Handles.{HasMachine, IsProcedure, IsShared, OnMachine, OnProcedure};
 ghost use Rattle.bohm_c.specs.Singles.{IsCallDone, IsCallKept, IsNamed, IsStill};
 
 use crate::calling::fits;
 use crate::handle::{BohmHandle, put_back, take_back};
 use crate::kept::Kept;
 use crate::rows::BohmReply;
-use crate::status::{DONE, KEPT, MISUSE, NO_KEY, NO_MEMORY, TIMESTAMPS, UNFIT, WAITING};
+use crate::status::{DONE, KEPT, MISUSE, NO_KEY, NO_MEMORY, SHARED, TIMESTAMPS, UNFIT, WAITING};
 use std::alloc::Global;
 
 /// Whether a call with this many arguments of each kind can run next: `DONE`, or the status that
 /// tells why not.
 fn fits_on(machine: &Kept, procedure: &Kept, keys: usize, values: usize) -> u32
-    ensures status { (result ≡ DONE) ⊎ (result ≡ WAITING) ⊎ (result ≡ UNFIT) ⊎ (result ≡ MISUSE) }
+    ensures status { (result ≡ DONE) ⊎ (result ≡ WAITING) ⊎ (result ≡ UNFIT)
+        ⊎ (result ≡ MISUSE) ⊎ (result ≡ SHARED) }
     ensures misuse { (result ≡ MISUSE)
-        ↔ ¬ (IsMachine (Some machine.now) × IsProcedure (Some procedure.now)) }
+        ↔ ¬ (HasMachine (Some machine.now) × IsProcedure (Some procedure.now)) }
+    ensures shared { (result ≡ SHARED)
+        ↔ (IsShared (Some machine.now) × IsProcedure (Some procedure.now)) }
     ensures waiting { result ≡ WAITING
         → OnMachine (Some machine.now) (λ was. 0 < length was.waiting) }
     ensures told { (result ≡ DONE) ⊎ (result ≡ UNFIT)
@@ -32,16 +35,19 @@ fn fits_on(machine: &Kept, procedure: &Kept, keys: usize, values: usize) -> u32
     let Kept::Prepared(procedure) = procedure else {
         return MISUSE;
     };
-    let Kept::Machine(session) = machine else {
-        return MISUSE;
-    };
-    if !session.waiting.is_empty() {
-        return WAITING;
-    }
-    if fits(procedure, keys, values) {
-        DONE
-    } else {
-        UNFIT
+    match machine {
+        Kept::Machine(session) => {
+            if !session.waiting.is_empty() {
+                return WAITING;
+            }
+            if fits(procedure, keys, values) {
+                DONE
+            } else {
+                UNFIT
+            }
+        }
+        Kept::Shared(_) => SHARED,
+        Kept::Prepared(_) | Kept::Calls(_) | Kept::Lent | Kept::Worker(_) => MISUSE,
     }
 }
 
@@ -56,9 +62,12 @@ pub extern "C" fn bohm_fits(
 ) -> u32
     ensures same { machine.new.value ≡ machine.old.value }
     ensures same_procedure { procedure.new.value ≡ procedure.old.value }
-    ensures status { (result ≡ DONE) ⊎ (result ≡ WAITING) ⊎ (result ≡ UNFIT) ⊎ (result ≡ MISUSE) }
+    ensures status { (result ≡ DONE) ⊎ (result ≡ WAITING) ⊎ (result ≡ UNFIT)
+        ⊎ (result ≡ MISUSE) ⊎ (result ≡ SHARED) }
     ensures misuse { (result ≡ MISUSE)
-        ↔ ¬ (IsMachine machine.old.value × IsProcedure procedure.old.value) }
+        ↔ ¬ (HasMachine machine.old.value × IsProcedure procedure.old.value) }
+    ensures shared { (result ≡ SHARED)
+        ↔ (IsShared machine.old.value × IsProcedure procedure.old.value) }
     ensures waiting { result ≡ WAITING
         → OnMachine machine.old.value (λ was. 0 < length was.waiting) }
     ensures told { (result ≡ DONE) ⊎ (result ≡ UNFIT)
@@ -91,9 +100,12 @@ fn call_on(
     shown: &mut [i64],
 ) -> u32
     ensures status { (result ≡ DONE) ⊎ (result ≡ KEPT) ⊎ (result ≡ WAITING) ⊎ (result ≡ UNFIT)
-        ⊎ (result ≡ NO_KEY) ⊎ (result ≡ TIMESTAMPS) ⊎ (result ≡ NO_MEMORY) ⊎ (result ≡ MISUSE) }
+        ⊎ (result ≡ NO_KEY) ⊎ (result ≡ TIMESTAMPS) ⊎ (result ≡ NO_MEMORY)
+        ⊎ (result ≡ MISUSE) ⊎ (result ≡ SHARED) }
     ensures misuse { (result ≡ MISUSE)
-        ↔ ¬ (IsMachine (Some machine.old) × IsProcedure (Some procedure.now)) }
+        ↔ ¬ (HasMachine (Some machine.old) × IsProcedure (Some procedure.now)) }
+    ensures shared { (result ≡ SHARED)
+        ↔ (IsShared (Some machine.old) × IsProcedure (Some procedure.now)) }
     ensures done { result ≡ DONE → OnProcedure (Some procedure.now) (λ p.
         OnMachine (Some machine.old) (λ was. OnMachine (Some machine.new) (λ now.
         IsCallDone was now p (map (λ k. k.now) keys.now) values.now row.new shown.old shown.new))) }
@@ -102,7 +114,7 @@ fn call_on(
         IsCallKept was now p (map (λ k. k.now) keys.now) values.now (length shown.old)))) }
     ensures waiting { result ≡ WAITING
         → OnMachine (Some machine.old) (λ was. 0 < length was.waiting) }
-    ensures told { result ≢ WAITING → result ≢ MISUSE
+    ensures told { result ≢ WAITING → result ≢ MISUSE → result ≢ SHARED
         → OnMachine (Some machine.old) (λ was. was.waiting ≡ []) }
     ensures unfit { result ≡ UNFIT → OnProcedure (Some procedure.now)
         (λ p. ¬ Fits p (length keys.now) (length values.now)) }
@@ -121,10 +133,11 @@ fn call_on(
     let Kept::Prepared(procedure) = procedure else {
         return MISUSE;
     };
-    let Kept::Machine(session) = machine else {
-        return MISUSE;
-    };
-    session.call(procedure, keys, values, row, shown)
+    match machine {
+        Kept::Machine(session) => session.call(procedure, keys, values, row, shown),
+        Kept::Shared(_) => SHARED,
+        Kept::Prepared(_) | Kept::Calls(_) | Kept::Lent | Kept::Worker(_) => MISUSE,
+    }
 }
 
 /// Runs the call of a procedure with these arguments, as a segment of its own, and returns its
@@ -141,9 +154,12 @@ pub extern "C" fn bohm_call(
 ) -> u32
     ensures same { procedure.new.value ≡ procedure.old.value }
     ensures status { (result ≡ DONE) ⊎ (result ≡ KEPT) ⊎ (result ≡ WAITING) ⊎ (result ≡ UNFIT)
-        ⊎ (result ≡ NO_KEY) ⊎ (result ≡ TIMESTAMPS) ⊎ (result ≡ NO_MEMORY) ⊎ (result ≡ MISUSE) }
+        ⊎ (result ≡ NO_KEY) ⊎ (result ≡ TIMESTAMPS) ⊎ (result ≡ NO_MEMORY)
+        ⊎ (result ≡ MISUSE) ⊎ (result ≡ SHARED) }
     ensures misuse { (result ≡ MISUSE)
-        ↔ ¬ (IsMachine machine.old.value × IsProcedure procedure.old.value) }
+        ↔ ¬ (HasMachine machine.old.value × IsProcedure procedure.old.value) }
+    ensures shared { (result ≡ SHARED)
+        ↔ (IsShared machine.old.value × IsProcedure procedure.old.value) }
     ensures done { result ≡ DONE → OnProcedure procedure.old.value (λ p.
         OnMachine machine.old.value (λ was. OnMachine machine.new.value (λ now.
         IsCallDone was now p (map (λ k. k.now) keys.now) values.now row.new shown.old shown.new))) }
@@ -152,7 +168,7 @@ pub extern "C" fn bohm_call(
         IsCallKept was now p (map (λ k. k.now) keys.now) values.now (length shown.old)))) }
     ensures waiting { result ≡ WAITING
         → OnMachine machine.old.value (λ was. 0 < length was.waiting) }
-    ensures told { result ≢ WAITING → result ≢ MISUSE
+    ensures told { result ≢ WAITING → result ≢ MISUSE → result ≢ SHARED
         → OnMachine machine.old.value (λ was. was.waiting ≡ []) }
     ensures unfit { result ≡ UNFIT → OnProcedure procedure.old.value
         (λ p. ¬ Fits p (length keys.now) (length values.now)) }
@@ -193,9 +209,12 @@ fn call_named_on(
     shown: &mut [i64],
 ) -> u32
     ensures status { (result ≡ DONE) ⊎ (result ≡ KEPT) ⊎ (result ≡ WAITING) ⊎ (result ≡ UNFIT)
-        ⊎ (result ≡ TIMESTAMPS) ⊎ (result ≡ NO_MEMORY) ⊎ (result ≡ MISUSE) }
-    ensures misuse { (result ≡ MISUSE) ↔ ¬ (OnMachine (Some machine.old)
-        (λ was. AllNamed was.single handles.now) × IsProcedure (Some procedure.now)) }
+        ⊎ (result ≡ TIMESTAMPS) ⊎ (result ≡ NO_MEMORY) ⊎ (result ≡ MISUSE) ⊎ (result ≡ SHARED) }
+    ensures misuse { (result ≡ MISUSE) ↔ ¬ ((IsShared (Some machine.old)
+        ⊎ OnMachine (Some machine.old) (λ was. AllNamed was.single handles.now))
+        × IsProcedure (Some procedure.now)) }
+    ensures shared { (result ≡ SHARED)
+        ↔ (IsShared (Some machine.old) × IsProcedure (Some procedure.now)) }
     ensures done { result ≡ DONE → OnProcedure (Some procedure.now) (λ p.
         OnMachine (Some machine.old) (λ was. OnMachine (Some machine.new) (λ now. IsCallDone was now
         p (names_at was.single handles.now) values.now row.new shown.old shown.new))) }
@@ -204,7 +223,7 @@ fn call_named_on(
         IsCallKept was now p (names_at was.single handles.now) values.now (length shown.old)))) }
     ensures waiting { result ≡ WAITING
         → OnMachine (Some machine.old) (λ was. 0 < length was.waiting) }
-    ensures told { result ≢ WAITING → result ≢ MISUSE
+    ensures told { result ≢ WAITING → result ≢ MISUSE → result ≢ SHARED
         → OnMachine (Some machine.old) (λ was. was.waiting ≡ []) }
     ensures unfit { result ≡ UNFIT → OnProcedure (Some procedure.now)
         (λ p. ¬ Fits p (length handles.now) (length values.now)) }
@@ -222,13 +241,16 @@ fn call_named_on(
     let Kept::Prepared(procedure) = procedure else {
         return MISUSE;
     };
-    let Kept::Machine(session) = machine else {
-        return MISUSE;
-    };
-    if !session.single.knows(handles) {
-        return MISUSE;
+    match machine {
+        Kept::Machine(session) => {
+            if !session.single.knows(handles) {
+                return MISUSE;
+            }
+            session.call_named(procedure, handles, values, row, shown)
+        }
+        Kept::Shared(_) => SHARED,
+        Kept::Prepared(_) | Kept::Calls(_) | Kept::Lent | Kept::Worker(_) => MISUSE,
     }
-    session.call_named(procedure, handles, values, row, shown)
 }
 
 /// Runs the call as `bohm_call` does, with its keys given by handles of the machine.
@@ -244,9 +266,12 @@ pub extern "C" fn bohm_call_named(
 ) -> u32
     ensures same { procedure.new.value ≡ procedure.old.value }
     ensures status { (result ≡ DONE) ⊎ (result ≡ KEPT) ⊎ (result ≡ WAITING) ⊎ (result ≡ UNFIT)
-        ⊎ (result ≡ TIMESTAMPS) ⊎ (result ≡ NO_MEMORY) ⊎ (result ≡ MISUSE) }
-    ensures misuse { (result ≡ MISUSE) ↔ ¬ (OnMachine machine.old.value
-        (λ was. AllNamed was.single handles.now) × IsProcedure procedure.old.value) }
+        ⊎ (result ≡ TIMESTAMPS) ⊎ (result ≡ NO_MEMORY) ⊎ (result ≡ MISUSE) ⊎ (result ≡ SHARED) }
+    ensures misuse { (result ≡ MISUSE) ↔ ¬ ((IsShared machine.old.value
+        ⊎ OnMachine machine.old.value (λ was. AllNamed was.single handles.now))
+        × IsProcedure procedure.old.value) }
+    ensures shared { (result ≡ SHARED)
+        ↔ (IsShared machine.old.value × IsProcedure procedure.old.value) }
     ensures done { result ≡ DONE → OnProcedure procedure.old.value (λ p.
         OnMachine machine.old.value (λ was. OnMachine machine.new.value (λ now. IsCallDone was now
         p (names_at was.single handles.now) values.now row.new shown.old shown.new))) }
@@ -255,7 +280,7 @@ pub extern "C" fn bohm_call_named(
         IsCallKept was now p (names_at was.single handles.now) values.now (length shown.old)))) }
     ensures waiting { result ≡ WAITING
         → OnMachine machine.old.value (λ was. 0 < length was.waiting) }
-    ensures told { result ≢ WAITING → result ≢ MISUSE
+    ensures told { result ≢ WAITING → result ≢ MISUSE → result ≢ SHARED
         → OnMachine machine.old.value (λ was. was.waiting ≡ []) }
     ensures unfit { result ≡ UNFIT → OnProcedure procedure.old.value
         (λ p. ¬ Fits p (length handles.now) (length values.now)) }
@@ -288,18 +313,20 @@ pub extern "C" fn bohm_call_named(
 /// Makes a handle of a key on a machine; `MISUSE` if it is no machine.
 fn machine_key_on(machine: &mut Kept, name: &[u8], handle: &mut u32) -> u32
     ensures status { (result ≡ DONE) ⊎ (result ≡ NO_MEMORY) ⊎ (result ≡ NO_KEY)
-        ⊎ (result ≡ MISUSE) }
-    ensures misuse { (result ≡ MISUSE) ↔ ¬ IsMachine (Some machine.old) }
+        ⊎ (result ≡ MISUSE) ⊎ (result ≡ SHARED) }
+    ensures misuse { (result ≡ MISUSE) ↔ ¬ HasMachine (Some machine.old) }
+    ensures shared { (result ≡ SHARED) ↔ IsShared (Some machine.old) }
     ensures done { result ≡ DONE → OnMachine (Some machine.old) (λ was.
         OnMachine (Some machine.new) (λ now. IsNamed was now name.now handle.new)) }
     ensures no_key { result ≡ NO_KEY → key_of name.now ≡ None }
     ensures unchanged { 0 < result → machine.new ≡ machine.old }
     ensures untouched { 0 < result → handle.new ≡ handle.old }
 {
-    let Kept::Machine(session) = machine else {
-        return MISUSE;
-    };
-    session.name_key(name, handle)
+    match machine {
+        Kept::Machine(session) => session.name_key(name, handle),
+        Kept::Shared(_) => SHARED,
+        Kept::Prepared(_) | Kept::Calls(_) | Kept::Lent | Kept::Worker(_) => MISUSE,
+    }
 }
 
 /// Makes a handle of a key, by which `bohm_call_named` names the key on this machine. Its number is
@@ -312,8 +339,9 @@ pub extern "C" fn bohm_machine_key(
     handle: &mut u32,
 ) -> u32
     ensures status { (result ≡ DONE) ⊎ (result ≡ NO_MEMORY) ⊎ (result ≡ NO_KEY)
-        ⊎ (result ≡ MISUSE) }
-    ensures misuse { (result ≡ MISUSE) ↔ ¬ IsMachine machine.old.value }
+        ⊎ (result ≡ MISUSE) ⊎ (result ≡ SHARED) }
+    ensures misuse { (result ≡ MISUSE) ↔ ¬ HasMachine machine.old.value }
+    ensures shared { (result ≡ SHARED) ↔ IsShared machine.old.value }
     ensures done { result ≡ DONE → OnMachine machine.old.value (λ was.
         OnMachine machine.new.value (λ now. IsNamed was now name.now handle.new)) }
     ensures no_key { result ≡ NO_KEY → key_of name.now ≡ None }

@@ -47,3 +47,9 @@ pub const MISUSE: u32 = 13;
 
 /// The keys of a store's rows don't rise, each above the one before it, and nothing has changed.
 pub const UNSORTED: u32 = 14;
+
+/// One worker runs the calls in less time, and nothing has changed.
+pub const IN_ORDER: u32 = 15;
+
+/// The machine or the list is shared, or a worker is left, and nothing has changed.
+pub const SHARED: u32 = 16;

@@ -7,7 +7,7 @@ ghost use Rattle.bohm_types.specs.Name.{key_of};
 ghost use Rattle.bohm_types.specs.Sound.{IsName};
 ghost use Rattle.bohm_machine.specs.Machines.{floor_of, top_of};
 ghost use Rattle.bohm_c.specs.Entries.{AreRows, IsOpeningOfRows, entry_of, name_in};
-ghost use Rattle.bohm_c.specs.Handles.{IsMachine, OnMachine};
+ghost use Rattle.bohm_c.specs.Handles.{HasMachine, IsShared, OnMachine};
 ghost use Rattle.bohm_c.specs.Keeping.{IsReadable};
 ghost use Rattle.bohm_c.specs.Singles.{IsCompact};
 
@@ -16,7 +16,7 @@ use crate::handle::{BohmHandle, put_back, take_back};
 use crate::kept::Kept;
 use crate::key_fault::KeyFault;
 use crate::seeds::draw;
-use crate::status::{DONE, FUTURE, MISUSE, NO_KEY, NO_MEMORY, TRIMMED, UNSORTED};
+use crate::status::{DONE, FUTURE, MISUSE, NO_KEY, NO_MEMORY, SHARED, TRIMMED, UNSORTED};
 use crate::store_rows::{RowsFault, open_rows};
 use std::alloc::Global;
 
@@ -72,8 +72,9 @@ pub extern "C" fn bohm_store_rows<'a>(
     ensures same { machine.new.value ≡ machine.old.value }
     ensures status { (result ≡ DONE) ⊎ (result ≡ NO_MEMORY) ⊎ (result ≡ TRIMMED)
         ⊎ (result ≡ FUTURE)
-        ⊎ (result ≡ MISUSE) }
-    ensures misuse { (result ≡ MISUSE) ↔ ¬ IsMachine machine.old.value }
+        ⊎ (result ≡ MISUSE) ⊎ (result ≡ SHARED) }
+    ensures misuse { (result ≡ MISUSE) ↔ ¬ HasMachine machine.old.value }
+    ensures shared { (result ≡ SHARED) ↔ IsShared machine.old.value }
     ensures done { result ≡ DONE
         → OnMachine machine.old.value (λ k. AreRows k.machine ts out.new.now) }
     ensures trimmed { result ≡ TRIMMED
@@ -88,7 +89,8 @@ pub extern "C" fn bohm_store_rows<'a>(
     };
     let status = match &*kept {
         Kept::Machine(session) => session.store_rows(alloc, ts, out),
-        Kept::Prepared(_) | Kept::Calls(_) => MISUSE,
+        Kept::Shared(_) => SHARED,
+        Kept::Prepared(_) | Kept::Calls(_) | Kept::Lent | Kept::Worker(_) => MISUSE,
     };
     put_back(machine, kept);
     status
@@ -97,8 +99,10 @@ pub extern "C" fn bohm_store_rows<'a>(
 /// Drops the past below the top, and gives back the memory of keys that have no value there.
 #[unsafe(no_mangle)]
 pub extern "C" fn bohm_compact(alloc: Global, machine: &mut BohmHandle) -> u32
-    ensures status { (result ≡ DONE) ⊎ (result ≡ NO_MEMORY) ⊎ (result ≡ MISUSE) }
-    ensures misuse { (result ≡ MISUSE) ↔ ¬ IsMachine machine.old.value }
+    ensures status { (result ≡ DONE) ⊎ (result ≡ NO_MEMORY)
+        ⊎ (result ≡ MISUSE) ⊎ (result ≡ SHARED) }
+    ensures misuse { (result ≡ MISUSE) ↔ ¬ HasMachine machine.old.value }
+    ensures shared { (result ≡ SHARED) ↔ IsShared machine.old.value }
     ensures done { result ≡ DONE → OnMachine machine.old.value (λ was.
         OnMachine machine.new.value (λ now. IsCompact was now)) }
     ensures unchanged { 0 < result → machine.new.value ≡ machine.old.value }
@@ -108,7 +112,8 @@ pub extern "C" fn bohm_compact(alloc: Global, machine: &mut BohmHandle) -> u32
     };
     let status = match &mut *kept {
         Kept::Machine(session) => session.compact(alloc),
-        Kept::Prepared(_) | Kept::Calls(_) => MISUSE,
+        Kept::Shared(_) => SHARED,
+        Kept::Prepared(_) | Kept::Calls(_) | Kept::Lent | Kept::Worker(_) => MISUSE,
     };
     put_back(machine, kept);
     status

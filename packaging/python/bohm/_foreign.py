@@ -9,6 +9,7 @@ import re
 import struct
 import threading
 import time
+from concurrent.futures import ThreadPoolExecutor
 from ctypes import POINTER, byref, c_char_p, c_int64, c_size_t, c_uint8, c_uint32, c_uint64, c_void_p
 from itertools import groupby, islice
 from typing import Any, Callable, Dict, Iterable, Iterator, List, Mapping, Optional, Tuple, Union
@@ -27,12 +28,14 @@ PAUSE = 0.0001
 ROW = struct.Struct("=IIQQ")
 
 
+# The most workers of a machine.
+MOST_WORKERS = 16
 # The bytes of a row of a store.
 ENTRY = 40
 
 
 class _Handle(ctypes.Structure):
-    """A machine, a procedure or a list of calls: null if it is closed."""
+    """A machine, a procedure, a list of calls or a worker: null if it is closed."""
 
     _fields_ = [("at", c_void_p)]
 
@@ -77,6 +80,10 @@ _DECLARED: Dict[str, List[Any]] = {
     "bohm_key_handle": [_HANDLE, *_TEXT, POINTER(c_uint32)],
     "bohm_push_named": [_HANDLE, _HANDLE, POINTER(c_uint32), c_size_t, POINTER(c_int64), c_size_t],
     "bohm_run_calls_held": [_HANDLE, _HANDLE],
+    "bohm_share_calls": [_HANDLE, _HANDLE, c_uint32],
+    "bohm_open_worker": [_HANDLE, _HANDLE],
+    "bohm_work": [_HANDLE],
+    "bohm_finish_calls": [_HANDLE, _HANDLE],
     "bohm_calls_text": [_HANDLE, _OUT],
     "bohm_clear_calls": [_HANDLE],
     "bohm_call": [_HANDLE, _HANDLE, POINTER(_KeyBytes), *_REPLIED],
@@ -310,15 +317,31 @@ class Procedure:
 _Fill = Callable[[Any], None]
 
 
+class Worker:
+    """A worker of shared calls. It works once, on the thread that comes first; others wait until it has."""
+
+    def __init__(self) -> None:
+        self.raw, self.lock = _Handle(None), threading.Lock()
+
+    def work(self, table: Table) -> None:
+        with self.lock:
+            table.call("bohm_work", byref(self.raw))
+
+
 class Machine:
     """A store with its past."""
 
-    def __init__(self, table: Table, seed: bytes, store: Any, top: int, is_rows: bool = False) -> None:
+    def __init__(self, table: Table, seed: bytes, store: Any, top: int, is_rows: bool = False, workers: int = 1) -> None:
+        if not 1 <= workers <= MOST_WORKERS:
+            raise ValueError(f"a machine has 1 to {MOST_WORKERS} workers, not {workers}")
         # Who is changing the machine, for all of a call; and who is using it, for a batch or to read.
         self._writing, self._inside = threading.RLock(), threading.RLock()
         self._table, self._seed = table, seed
         self._lists: Dict[int, _Handle] = {}
         self._raw = _Handle(None)
+        # Threads beside the caller's, and a list whose calls they run, with the workers for it.
+        self._workers, self._threads = workers, ThreadPoolExecutor(workers - 1, "bohm") if workers > 1 else None
+        self._shared: Optional[Tuple[Any, List[Worker]]] = None
         self._names: List[bytes] = []
         self._indices: Dict[bytes, int] = {}
         self._handles: Dict[Tuple[int, int], int] = {}
@@ -352,6 +375,7 @@ class Machine:
     def _opened(self) -> Any:
         if not self._raw.at:
             raise ClosedError("the machine is closed")
+        self._finish_calls()
         return byref(self._raw)
 
     def _timestamp(self, ts: Optional[Any]) -> int:
@@ -511,8 +535,42 @@ class Machine:
             # An interrupted call may have left some of its own there.
             self._table.call("bohm_clear_calls", calls)
             fill()
-            return self._table.call("bohm_run_calls_held", self._opened(), calls)
+            return self._run_list(calls)
         return run
+
+    def _run_list(self, calls: Any) -> int:
+        """Runs the calls of a list, on several threads if that takes less time."""
+        raw = self._opened()
+        if self._threads:
+            workers = [Worker()]
+            self._shared = calls, workers
+            status = self._table.call("bohm_share_calls", raw, calls, self._workers)
+            if not status:
+                # What has no worker, for want of memory, is run at the end.
+                while not self._table.call("bohm_open_worker", raw, byref(workers[-1].raw)):
+                    workers.append(Worker())
+                for worker in workers[1:-1]:
+                    self._threads.submit(worker.work, self._table)
+                return self._finish_calls()
+            self._shared = None
+            if status not in (Status.IN_ORDER, Status.NO_MEMORY):
+                return status
+        return self._table.call("bohm_run_calls_held", raw, calls)
+
+    def _finish_calls(self) -> int:
+        """Ends calls that are shared, if there are any, with this thread in the place of those that are late; also the calls of
+        a run that was interrupted."""
+        if not self._shared:
+            return Status.DONE
+        with self._inside:
+            if not self._shared:
+                return Status.DONE
+            calls, workers = self._shared
+            for worker in workers:
+                worker.work(self._table)
+            status = self._table.call("bohm_finish_calls", byref(self._raw), calls)
+            self._shared = None
+            return status
 
     def _call_batches(self, calls: Tuple[Call, ...]) -> Iterator[Callable[[], int]]:
         for edition, group in groupby(calls, lambda call: call.procedure.edition):
@@ -768,6 +826,8 @@ class Machine:
             self._close()
 
     def _close(self) -> None:
+        if self._threads:
+            self._threads.shutdown(wait=False)
         for calls in self._lists.values():
             self._table.calls["bohm_close_calls"](byref(calls))
         self._table.calls["bohm_close"](byref(self._raw))

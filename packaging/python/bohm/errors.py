@@ -24,6 +24,8 @@ class Status(enum.IntEnum):
     UNFIT = 12
     MISUSE = 13
     UNSORTED = 14
+    IN_ORDER = 15
+    SHARED = 16
 
 
 class BohmError(Exception):
@@ -130,10 +132,10 @@ class BusyError(BohmError, RuntimeError):
 
 
 class UnfitError(BohmError, ValueError):
-    """An edition, a statement, or a number of arguments or calls is not acceptable."""
+    """An edition, a statement, or a number of arguments, calls or workers is not acceptable."""
 
     status = Status.UNFIT
-    why = "an edition, a statement, or a number of arguments or calls is not acceptable"
+    why = "an edition, a statement, or a number of arguments, calls or workers is not acceptable"
 
 
 class UnsortedError(BohmError, ValueError):

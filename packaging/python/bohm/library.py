@@ -18,8 +18,8 @@ FUNCTIONS = (
     "bohm_answer", "bohm_open", "bohm_open_rows", "bohm_apply_held", "bohm_rows", "bohm_value_at", "bohm_store_at",
     "bohm_store_rows", "bohm_digest", "bohm_trim", "bohm_compact", "bohm_timestamps", "bohm_counts_sized", "bohm_close",
     "bohm_prepare_report", "bohm_statement_text", "bohm_close_procedure", "bohm_open_calls_for", "bohm_push",
-    "bohm_key_handle", "bohm_push_named", "bohm_run_calls_held", "bohm_calls_text", "bohm_clear_calls", "bohm_close_calls",
-    "bohm_call", "bohm_machine_key", "bohm_call_named", "bohm_free",
+    "bohm_key_handle", "bohm_push_named", "bohm_run_calls_held", "bohm_share_calls", "bohm_open_worker", "bohm_work",
+    "bohm_finish_calls", "bohm_calls_text", "bohm_clear_calls", "bohm_close_calls", "bohm_call", "bohm_machine_key", "bohm_call_named", "bohm_free",
 )
 
 

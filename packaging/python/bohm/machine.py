@@ -64,14 +64,16 @@ class Machine(_core.Machine):
     If a signal's handler raises an exception during a call, the call ends behind a batch, and `replies` returns the replies
     of what has run."""
 
-    def __init__(self, snapshot: Text = b"log 1\n", top: int = 0, *, library: Optional[Library] = None) -> None:
+    def __init__(self, snapshot: Text = b"log 1\n", top: int = 0, *, workers: int = 1, library: Optional[Library] = None) -> None:
         """Opens a snapshot: the store after the transaction with the timestamp `top`, as text of at most 64 MiB. `open_rows`
-        opens larger ones."""
+        opens larger ones. With `workers`, up to 16, calls of long procedures run on so many threads, which the machine has
+        until it is closed; replies and store are the same."""
         self.library = library or load()
-        super().__init__(self.library._table, drawn_seed(), octets(snapshot), top)
+        super().__init__(self.library._table, drawn_seed(), octets(snapshot), top, False, workers)
 
     @classmethod
-    def open_rows(cls, rows: "Union[Buffer, Pairs]", top: int = 0, *, library: Optional[Library] = None) -> "Machine":
+    def open_rows(cls, rows: "Union[Buffer, Pairs]", top: int = 0, *, workers: int = 1,
+                  library: Optional[Library] = None) -> "Machine":
         """Opens a store of any size, as it is after the transaction with the timestamp `top`: what `store_rows` returned, a
         mapping, or pairs of keys and values in rising order of the keys. Raises UnsortedError."""
         machine = cls.__new__(cls)
@@ -81,7 +83,7 @@ class Machine(_core.Machine):
             store = memoryview(cast(bytes, rows))
         except TypeError:
             store = packed(cast(Pairs, rows))
-        _core.Machine.__init__(machine, machine.library._table, drawn_seed(), store, top, True)
+        _core.Machine.__init__(machine, machine.library._table, drawn_seed(), store, top, True, workers)
         return machine
 
     def prepare(self, text: Text) -> Procedure:

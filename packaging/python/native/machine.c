@@ -1,6 +1,8 @@
 /* Machines: opening, reading, closing. */
 #include "native.h"
 
+#include <unistd.h>
+
 static int is_open(machine_object *machine, turn *taken) {
     if (machine->machine.at) return 0;
     pass_turn(taken);
@@ -79,17 +81,29 @@ static int open_text(machine_object *machine, const Py_buffer *text, uint32_t to
     return status ? (raise_status(status), -1) : 0;
 }
 
+/* Starts the machine's threads. -1 with an exception set. */
+static int start_threads(machine_object *machine, int workers) {
+    if (workers < 1 || workers > BOHM_MOST_WORKERS) {
+        PyErr_Format(PyExc_ValueError, "a machine has 1 to %d workers, not %d", BOHM_MOST_WORKERS, workers);
+        return -1;
+    }
+    uint32_t status = bohm_start_threads(&machine->threads, (uint32_t)workers);
+    machine->starter = getpid();
+    return status ? (raise_status(status), -1) : 0;
+}
+
 static int machine_init(PyObject *self, PyObject *args, PyObject *named) {
     machine_object *machine = (machine_object *)self;
-    static char *words[] = {"table", "seed", "store", "top", "is_rows", NULL};
+    static char *words[] = {"table", "seed", "store", "top", "is_rows", "workers", NULL};
     PyObject *table, *top;
     const char *seed;
     Py_ssize_t seed_len;
     Py_buffer store;
     uint32_t ts = 0;
-    int is_rows = 0, status = -1;
+    int is_rows = 0, workers = 1, status = -1;
     if (machine->table) return PyErr_SetString(PyExc_TypeError, "a machine is opened once"), -1;
-    if (!PyArg_ParseTupleAndKeywords(args, named, "O!y#y*O|p", words, table_type, &table, &seed, &seed_len, &store, &top, &is_rows))
+    if (!PyArg_ParseTupleAndKeywords(args, named, "O!y#y*O|pi", words, table_type, &table, &seed, &seed_len, &store, &top, &is_rows,
+                                     &workers))
         return -1;
     if (seed_len != sizeof machine->seed) PyErr_SetString(PyExc_ValueError, "a seed has 16 bytes");
     else if (!timestamp_of(machine, top, &ts)) {
@@ -100,13 +114,15 @@ static int machine_init(PyObject *self, PyObject *args, PyObject *named) {
         status = is_rows ? open_rows(machine, &store, ts) : open_text(machine, &store, ts);
     }
     PyBuffer_Release(&store);
-    if (status < 0) return -1;
+    if (status < 0 || start_threads(machine, workers) < 0) return -1;
     machine->indices = PyDict_New();
     return machine->indices ? 0 : -1;
 }
 
 static void close_handles(machine_object *machine) {
     if (!machine->table) return;
+    /* A forked child doesn't have the threads. */
+    if (machine->starter == getpid()) bohm_stop_threads(&machine->threads);
     for (int i = 0; i < 2; i++) machine->table->close_calls(machine->lists + i);
     machine->table->close(&machine->machine);
 }

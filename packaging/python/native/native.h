@@ -11,6 +11,7 @@
 #include <structmember.h>
 
 #include <bohm.h>
+#include <bohm_threads.h>
 
 /* Every CPython from 3.3 on has these. The stable ABI lists them since 3.10 and 3.11, with the same layout. */
 #if Py_LIMITED_API < 0x030a0000
@@ -69,8 +70,8 @@ void pass_turn(turn *turn);
     each(answer) each(open) each(open_rows) each(apply_held) each(rows) each(value_at) each(store_at) each(store_rows) \
     each(digest) each(trim) each(compact) each(timestamps) each(counts_sized) each(close) each(prepare_report) \
     each(statement_text) each(close_procedure) \
-    each(open_calls_for) each(push) each(key_handle) each(push_named) each(run_calls_held) each(calls_text) each(clear_calls) \
-    each(close_calls) each(call) each(machine_key) each(call_named) each(free)
+    each(open_calls_for) each(push) each(key_handle) each(push_named) each(run_calls_held) each(share_calls) each(open_worker) \
+    each(work) each(finish_calls) each(calls_text) each(clear_calls) each(close_calls) each(call) each(machine_key) each(call_named) each(free)
 
 #define DECLARED(name) __typeof__(&bohm_##name) name;
 typedef struct {
@@ -206,6 +207,8 @@ struct machine_object {
     bohm_calls lists[2];
     uint8_t seed[16];
     uint32_t floor, top;
+    bohm_threads threads; /* those that run calls together */
+    pid_t starter;        /* the process that has them */
     turn writing; /* of a call that changes the machine, for all of it */
     turn inside;  /* of a batch, or of a call that reads */
     known_key *keys;

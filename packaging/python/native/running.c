@@ -272,10 +272,34 @@ static int has_timestamps(machine_object *machine, size_t count) {
 
 /* --- calls --- */
 
+typedef struct {
+    table_object *table;
+    bohm_worker workers[BOHM_MOST_WORKERS];
+} shared_calls;
+
+static void work_at(void *given, uint32_t place) {
+    shared_calls *shared = given;
+    shared->table->work(&shared->workers[place]);
+}
+
+/* Runs the calls of a list, on the machine's threads if that takes less time. */
+static uint32_t run_together(machine_object *machine, bohm_calls *list) {
+    table_object *table = machine->table;
+    shared_calls shared = {.table = table};
+    uint32_t opened = 0, most = machine->threads.count + 1;
+    uint32_t status = most > 1 ? table->share_calls(&machine->machine, list, most) : BOHM_IN_ORDER;
+    if (status == BOHM_IN_ORDER || status == BOHM_NO_MEMORY) return table->run_calls_held(&machine->machine, list);
+    if (status) return status;
+    /* What has no worker, for want of memory, is run at the end. */
+    while (opened < most && !table->open_worker(&machine->machine, &shared.workers[opened])) opened++;
+    bohm_on_threads(&machine->threads, work_at, &shared, opened);
+    return table->finish_calls(&machine->machine, list);
+}
+
 /* Runs the calls of a list, which is emptied. */
 static uint32_t run_list(machine_object *machine, uint32_t edition) {
     bohm_calls *list = machine->lists + (edition - 1);
-    uint32_t status = machine->table->run_calls_held(&machine->machine, list);
+    uint32_t status = run_together(machine, list);
     machine->table->clear_calls(list);
     return status;
 }

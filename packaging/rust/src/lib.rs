@@ -27,6 +27,7 @@ mod replies;
 mod seed;
 mod store_rows;
 mod text;
+mod workers;
 
 pub use calls::{Calls, Edition, Procedure, Statement};
 pub use error::Error;

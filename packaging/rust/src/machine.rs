@@ -8,6 +8,7 @@ use crate::replies::{OwnedReply, Replies};
 use crate::seed;
 use crate::store_rows::{entry_of, StoreRows};
 use crate::text::{Owned, Text};
+use crate::workers::Threads;
 use std::mem::size_of;
 use std::sync::Arc;
 
@@ -45,6 +46,7 @@ pub fn answer(log: impl AsRef<[u8]>) -> Result<Text, Error> {
 pub struct Machine {
     raw: Handle,
     owner: Owner,
+    threads: Threads,
 }
 
 // SAFETY: `bohm.h` says that a machine may go to another thread.
@@ -62,7 +64,7 @@ impl Machine {
         let status =
             unsafe { raw::bohm_open(&mut raw, &seed::draw(), snapshot.as_ptr(), snapshot.len(), top, out.0.out()) };
         told(status, &out)?;
-        Ok(Machine { raw, owner: Owner::new() })
+        Ok(Machine { raw, owner: Owner::new(), threads: Threads::none() })
     }
 
     /// Opens a store of any size, as it is after the transaction with the timestamp `top`. Its keys come in rising order of
@@ -73,7 +75,7 @@ impl Machine {
         let mut raw = Handle::closed();
         // SAFETY: the handle is closed, and there are that many entries.
         done(unsafe { raw::bohm_open_rows(&mut raw, &seed::draw(), entries.as_ptr(), entries.len(), top) })?;
-        Ok(Machine { raw, owner: Owner::new() })
+        Ok(Machine { raw, owner: Owner::new(), threads: Threads::none() })
     }
 
     /// The replies of the transactions that just ran, which follow the timestamp `behind`.
@@ -115,6 +117,27 @@ impl Machine {
         let behind = self.top();
         // SAFETY: both are open until they are dropped.
         let status = unsafe { raw::bohm_run_calls_held(&mut self.raw, &calls.raw) };
+        if status != raw::STOPPED {
+            done(status)?;
+        }
+        self.handed(status, behind)
+    }
+
+    /// Runs calls as `run` does, but with so many workers where these take less time: there are at most 16, the procedures are
+    /// long, and the list has at most 4096 calls. One worker is this thread; the others are threads that the machine keeps
+    /// until it is dropped.
+    pub fn run_calls_on(&mut self, calls: &mut Calls, workers: u32) -> Result<Replies, Error> {
+        let behind = self.top();
+        // SAFETY: both are open until they are dropped.
+        let shared = unsafe { raw::bohm_share_calls(&mut self.raw, &mut calls.raw, workers) };
+        if shared == raw::IN_ORDER || shared == raw::NO_MEMORY {
+            return self.run(calls);
+        }
+        done(shared)?;
+        self.threads.grow(workers as usize - 1);
+        self.threads.work(&mut self.raw);
+        // SAFETY: as above.
+        let status = unsafe { raw::bohm_finish_calls(&mut self.raw, &mut calls.raw) };
         if status != raw::STOPPED {
             done(status)?;
         }

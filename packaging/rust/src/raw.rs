@@ -14,7 +14,7 @@ impl<T> Array<T> {
     }
 }
 
-/// A machine, a procedure or a list of calls: null if it is closed.
+/// A machine, a procedure, a list of calls or a worker: null if it is closed.
 #[repr(C)]
 #[derive(Debug)]
 pub struct Handle {
@@ -83,6 +83,7 @@ pub const WAITING: u32 = 9;
 pub const STOPPED: u32 = 10;
 pub const UNFIT: u32 = 12;
 pub const UNSORTED: u32 = 14;
+pub const IN_ORDER: u32 = 15;
 
 extern "C" {
     pub fn bohm_free(at: *mut c_void);
@@ -130,6 +131,11 @@ extern "C" {
         value_count: usize, row: *mut Row, shown: *mut i64, room: usize,
     ) -> u32;
     pub fn bohm_run_calls_held(machine: *mut Handle, calls: *const Handle) -> u32;
+    pub fn bohm_share_calls(machine: *mut Handle, calls: *mut Handle, workers: u32) -> u32;
+    pub fn bohm_open_worker(machine: *mut Handle, worker: *mut Handle) -> u32;
+    pub fn bohm_work(worker: *mut Handle) -> u32;
+    pub fn bohm_close_worker(worker: *mut Handle);
+    pub fn bohm_finish_calls(machine: *mut Handle, calls: *mut Handle) -> u32;
     pub fn bohm_clear_calls(calls: *mut Handle) -> u32;
     pub fn bohm_close_calls(calls: *mut Handle);
     pub static bohm_version: [u8; 16];

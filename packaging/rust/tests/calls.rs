@@ -40,6 +40,36 @@ fn threads_share_what_is_read() {
     }
 }
 
+/// A procedure whose body is long enough for workers to pay.
+fn long_body() -> String {
+    let sum = vec!["k"; 15].join(" + ");
+    let steps: String = (1..60).map(|step| format!("let $x{step} = {sum}\n")).collect();
+    format!("procedure 2\nkey k\nvalue n\nreads k\nwrites k\n{steps}set k = k + $n\nshow k\nend\n")
+}
+
+#[test]
+fn workers_run_calls() {
+    let add = Procedure::prepare(long_body()).unwrap();
+    let mut in_order = opened();
+    let mut calls = in_order.calls(Edition::Two).unwrap();
+    for n in 0..2000 {
+        calls.push(&add, &[["a", "b"][n % 2]], &[n as i64]).unwrap();
+    }
+    let replies = in_order.run(&calls).unwrap();
+    for workers in 1..6 {
+        let mut machine = opened();
+        for round in 0..3 {
+            let others = machine.run_calls_on(&mut calls, workers).unwrap();
+            assert_eq!((others.len(), machine.top()), (2000, 2000 * (round + 1)));
+            assert!(round > 0 || others == replies);
+        }
+        assert_eq!(machine.digest(2000).unwrap(), in_order.digest(2000).unwrap());
+    }
+    assert_eq!(calls.len(), 2000);
+    assert_eq!(in_order.run_calls_on(&mut calls, 0).unwrap_err(), Error::Unfit);
+    assert_eq!(in_order.run_calls_on(&mut calls, 17).unwrap().len(), 2000);
+}
+
 #[test]
 fn single_calls() {
     let (mut machine, mut second) = (opened(), opened());

@@ -11,7 +11,7 @@ use types.ByLocal.{alloc_all, pass_all, free_all, look_at, get, get_in, sets}
 use types.Part.{agg, sub, whole}
 use contract.Monad.{fact, fact_i}
 use contract.Running.{tables}
-use denote.Exit.{yes}
+use denote.Exit.{no}
 use denote.RattleType.{RattleType, owns}
 use denote.Signature.{types_at, plain}
 use denote.RawPtr.{block_ptr}
@@ -38,8 +38,8 @@ erased_spec 𝓤 𝓛 𝓜 𝓡 wired =
     let Z : RattleType = heap.the_row in
     let LZ = heap_laws.the_row_laws in
     let En = ended in let c = clauses 𝓛 𝓜.mem 𝓡.returns in let fn = code.function in
-    let hs : Stays En.signature.params En.kept = (stay_dropped (plain (λ _. RawBox R Z LZ ghosts)) yes, tt) in
-    proved_at 𝓛 En hs c 𝓜 𝓡 (Goes-blank 𝓛 0 (plain (λ _. RawBox R Z LZ ghosts)) yes (λ κs x f. tt), tt) #self fn (code.unfolded 𝓤 H 𝓜 𝓡 wired) (λ z are.
+    let hs : Stays En.signature.params En.kept = (stay_dropped (plain (λ _. RawBox R Z LZ ghosts)) no, tt) in
+    proved_at 𝓛 En hs c 𝓜 𝓡 (Goes-blank 𝓛 0 (plain (λ _. RawBox R Z LZ ghosts)) no (λ κs x f. tt), tt) #self fn (code.unfolded 𝓤 H 𝓜 𝓡 wired) (λ z are.
     let κs = z.0.0 in
     let v = z.0.3.0 in
     let Post : Val → SProp 𝓤 = (walk_of 𝓛 En hs c).post z in
