@@ -11,15 +11,18 @@ use Rattle.bohm_txn.specs.Sure.{is_sure}
 use Rattle.bohm_procedures.specs.Accepting.{IsAccepted}
 use Rattle.bohm_answer.specs.Bytes.{ReadsAll, Sends}
 use Rattle.bohm_answer.specs.declared.fault.RunFault.{RunFault}
-use Rattle.bohm_answer.specs.declared.fault.RunFault.TheVariants.{Write}
-use Rattle.bohm_report.specs.Procedures.{RefusesLogOrProcedure}
+use Rattle.bohm_answer.specs.declared.fault.RunFault.TheVariants.{Check, Write}
+use Rattle.bohm_txn.specs.declared.fault.CheckFault.{CheckFault}
+use Rattle.bohm_report.specs.Procedures.{RefusesLogOrProcedure, RefusesProcedure}
+use Rattle.bohm_report.specs.Refusals.{IsReported}
+use Rattle.bohm_check.specs.Distinct.{CountsKeys}
 use Rattle.bohm_check.specs.SummaryLine.{summary_line, procedure_line}
 use Rattle.bohm_check.specs.declared.summary.Summary.{Summary}
 use Rattle.bohm_check.specs.declared.procedure_report.ProcedureSummary.{ProcedureSummary}
 
 -- ---- good texts
 
--- the text of a well-formed document, and its summary line; this says nothing about `distinct`
+-- the text of a well-formed document, and its summary line
 pub record IsGoodLog (text line : List ℕ) : Type 0 where
   pub document : Document
   pub sound : IsDocument document
@@ -29,6 +32,7 @@ pub record IsGoodLog (text line : List ℕ) : Type 0 where
   pub edition : summary.edition ≡ document.edition
   pub keys : summary.keys ≡ length document.store
   pub transactions : summary.transactions ≡ length document.log
+  pub distinct : CountsKeys document summary.distinct
   pub sure : summary.sure ≡ count_by is_sure document.log
   pub is : line ≡ summary_line summary
 
@@ -81,3 +85,13 @@ pub record ReadsProcedure (unread unread' : Option (List ℕ)) : Type 0 where
 abbrev pub RefusesToTell : Option (List ℕ) → Option (List ℕ) → Option (List ℕ) → Option (List ℕ) → RunFault → Type 0
 RefusesToTell unread unread' written written' (Write sent) = StopsTelling unread unread' written written' sent
 RefusesToTell unread unread' written written' fault = RefusesLogOrProcedure unread unread' fault
+
+-- the messages about a log's first faults were added, or the text is refused as a procedure
+abbrev pub IsToldOf : List ℕ → CheckFault → List ℕ → List ℕ → Type 0
+IsToldOf text fault old new = IsReported text old new ⊎ RefusesProcedure text (Check fault)
+
+-- all that was read is such a text
+pub record TellsFaults (unread unread' : Option (List ℕ)) (fault : CheckFault) (old new : List ℕ) : Type 0 where
+  pub text : List ℕ
+  pub read : ReadsAll unread unread' text
+  pub told : IsToldOf text fault old new

@@ -1,12 +1,15 @@
 //! A check of a log or of a procedure, from bytes to bytes.
 
-ghost use Rattle.std.specs.Prelude.{◌≡◌, ◌⊎◌, OnOk, IfErr, IfOk, None, ℕ, List, Option};
+ghost use Rattle.std.specs.Prelude.{◌≡◌, ◌⊎◌, Err, OnOk, IfErr, IfOk, None, ℕ, List, Option};
 ghost use Rattle.bohm_answer.specs.Bytes.{ReadsAll};
 ghost use Rattle.bohm_check_cli.specs.Checking.{IsGood, IsGoodLog, IsGoodProcedure, IsProcedureText};
-ghost use Rattle.bohm_check_cli.specs.Checking.{ReadsProcedure, RefusesToTell, Tells};
+ghost use Rattle.bohm_check_cli.specs.Checking.{IsToldOf, ReadsProcedure, RefusesToTell, Tells};
+ghost use Rattle.bohm_check_cli.specs.Checking.{TellsFaults};
 ghost use Rattle.bohm_report.specs.Procedures.{RefusesLogOrProcedure, RefusesProcedure};
+ghost use Rattle.bohm_report.specs.Refusals.{IsReported};
 ghost use Rattle.bohm_report.specs.Refused.{RunRefuses};
 ghost use Rattle.bohm_run.specs.Headline.{IsBeforeWriting};
+ghost use Rattle.bohm_txn.specs.declared.fault.CheckFault.{CheckFault};
 
 use bohm_answer::{RunFault, read_all, write_all};
 use bohm_check::{ProcedureSummary, Summary, is_procedure, put_notes};
@@ -26,6 +29,8 @@ fn log_line<T: RandomSource>(
     ensures good { IfOk result (λ line. IsGoodLog text.now line.items) }
     ensures silent { OnOk result (report.new ≡ report.old) }
     ensures err { IfErr result (RunRefuses text.now) }
+    ensures reported { (f : CheckFault) → result ≡ Err (RunFault.Check f)
+        → IsReported text.now report.old.items report.new.items }
     ensures before { IfErr result IsBeforeWriting }
 {
     let checked = check_reported(rt, alloc, text, report)?;
@@ -71,6 +76,9 @@ pub fn check_text<T: RandomSource, R: Read, W: Write>(
     ensures err { IfErr result
         (RefusesToTell (R.remaining reader.old) (R.remaining reader.new) (W.contents writer.old)
         (W.contents writer.new)) }
+    ensures reported { (f : CheckFault) → result ≡ Err (RunFault.Check f)
+        → TellsFaults (R.remaining reader.old) (R.remaining reader.new) f report.old.items
+        report.new.items }
 
     // If the fault isn't a failed write, the writer is untouched.
     ensures untouched { IfErr result (λ e. IsBeforeWriting e → writer.new ≡ writer.old) }
@@ -91,6 +99,8 @@ fn answer_line<T: RandomSource>(
     ensures silent { OnOk result (report.new ≡ report.old ⊎ IsProcedureText text.now) }
     ensures err { IfErr result (λ e. (unread unread' : Option (List ℕ))
         → ReadsAll unread unread' text.now → RefusesLogOrProcedure unread unread' e) }
+    ensures reported { (f : CheckFault) → result ≡ Err (RunFault.Check f)
+        → IsToldOf text.now f report.old.items report.new.items }
     ensures before { IfErr result IsBeforeWriting }
 {
     if is_procedure(text) {

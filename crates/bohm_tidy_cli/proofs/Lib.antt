@@ -1,1 +1,2 @@
 mod Wishing
+mod Refusing

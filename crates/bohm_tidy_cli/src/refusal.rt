@@ -2,6 +2,7 @@
 
 ghost use Rattle.std.specs.Prelude.{◌≡◌, IfErr, OnOk};
 ghost use Rattle.bohm_answer.specs.Refusing.{IsBeforeWriting};
+ghost use Rattle.bohm_tidy_cli.specs.Tidying.{tidy_refusal};
 
 use bohm_answer::RunFault;
 use bohm_check::{
@@ -18,7 +19,8 @@ use std::alloc::Global;
 
 /// The refusal of a text that has no exact one.
 pub fn refusal_of(fault: TidyFault) -> RunFault
-    ensures { IsBeforeWriting result }
+    ensures is { result ≡ tidy_refusal fault }
+    ensures before { IsBeforeWriting result }
 {
     match fault {
         TidyFault::Line(line) => RunFault::Text(TextFault::Line(line)),

@@ -2,7 +2,10 @@
 
 ghost use Rattle.std.specs.Prelude.{◌≡◌, ◌≤◌, ℕ, [], false, true, length, IfOk, IfErr, OnOk, Err};
 ghost use Rattle.bohm_answer.specs.Refusing.{IsBeforeWriting};
-ghost use Rattle.bohm_tidy_cli.specs.Tidying.{ChecksLoose, IsExactOf, StopsTidying, Tidies};
+ghost use Rattle.bohm_tidy.specs.Plain.{is_loose_procedure};
+ghost use Rattle.bohm_tidy.specs.Tidied.{RefusesLoose};
+ghost use Rattle.bohm_tidy_cli.specs.Tidying.{ChecksLoose, IsExactOf, RefusesLooseLog};
+ghost use Rattle.bohm_tidy_cli.specs.Tidying.{RefusesToTidy, StopsTidying, Tidies};
 
 use crate::arguments::Wishes;
 use crate::refusal::{check_exact, put_refusal, refusal_of};
@@ -16,7 +19,9 @@ use std::random::RandomSource;
 
 /// The exact text of a loose log or of a loose procedure.
 fn tidied(alloc: Global, seed: DrawnSeed, text: &[u8]) -> Result<Vec<u8>, TidyFault>
-    ensures { IfOk result (λ exact. IsExactOf text.now exact.items) }
+    ensures ok { IfOk result (λ exact. IsExactOf text.now exact.items) }
+    ensures err { IfErr result
+        (λ fault. is_loose_procedure text.now ≡ false → RefusesLoose text.now fault) }
 {
     if is_loose_procedure(alloc, text)? {
         tidy_procedure(alloc, seed, text)
@@ -36,6 +41,8 @@ fn exact_text<T: RandomSource>(
     ensures tidied { IfOk result (λ exact. IsExactOf text.now exact.items) }
     ensures short { IfOk result (λ exact. length exact.items ≤ LONGEST_TEXT) }
     ensures silent { OnOk result (report.new ≡ report.old) }
+    ensures err { IfErr result
+        (λ e. is_loose_procedure text.now ≡ false → RefusesLooseLog text.now e) }
     ensures before { IfErr result IsBeforeWriting }
 {
     let seed = DrawnSeed::draw(rt);
@@ -62,6 +69,7 @@ fn asked<T: RandomSource>(
     ensures exact { IfOk result (λ output. wishes.check ≡ false → wishes.keep_comments ≡ false
         → output.items ≡ exact.items) }
     ensures nothing { IfOk result (λ output. wishes.check ≡ true → output.items ≡ []) }
+    ensures unchecked { IfErr result (λ e. wishes.check ≡ false → e ≡ RunFault.NoMemory) }
     ensures silent { OnOk result (report.new ≡ report.old) }
     ensures before { IfErr result IsBeforeWriting }
 {
@@ -100,6 +108,8 @@ pub fn tidy_text<T: RandomSource, R: Read, W: Write>(
         → wishes.keep_comments ≡ false
         → StopsTidying (R.remaining reader.old) (R.remaining reader.new) (W.contents writer.old)
         (W.contents writer.new) sent }
+    ensures err { IfErr result (λ e. wishes.check ≡ false
+        → RefusesToTidy (R.remaining reader.old) (R.remaining reader.new) e) }
 
     // If the fault isn't a failed write, the writer is untouched.
     ensures untouched { IfErr result (λ e. IsBeforeWriting e → writer.new ≡ writer.old) }
