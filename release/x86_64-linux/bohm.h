@@ -17,22 +17,23 @@
  *   caller's memory.
  * - A text that is read has at most BOHM_LONGEST_TEXT bytes; a longer one is BOHM_REFUSED with `refused: too long`. Stores
  *   above that are opened by bohm_open_rows.
- * - If several statuses apply, the first of these is returned: BOHM_MISUSE, BOHM_WAITING, BOHM_UNFIT, BOHM_NO_KEY,
- *   BOHM_UNSORTED, BOHM_REFUSED, BOHM_HAS_LOG, BOHM_HAS_STORE, BOHM_TIMESTAMPS, BOHM_TRIMMED, BOHM_FUTURE. A null pointer
- *   to a key's bytes is found after BOHM_UNFIT. An allocation may fail before a later one is found.
+ * - If several statuses apply, the first of these is returned: BOHM_MISUSE, BOHM_SHARED, BOHM_WAITING, BOHM_UNFIT,
+ *   BOHM_NO_KEY, BOHM_UNSORTED, BOHM_REFUSED, BOHM_HAS_LOG, BOHM_HAS_STORE, BOHM_TIMESTAMPS, BOHM_IN_ORDER, BOHM_TRIMMED,
+ *   BOHM_FUTURE. A null pointer to a key's bytes is found after BOHM_UNFIT, and a number that is no key's handle after
+ *   BOHM_SHARED. An allocation may fail before a later one is found.
  * - A call starts no thread, doesn't block, and reads and writes no file. It may be made from any thread, but not from
  *   a signal handler, nor from a forked child of a process with threads.
  * - Calls that take a machine by a pointer to const may be made on it at once by several threads. Any other call is the
  *   only one on the machine while it runs, and the machine is passed on to another thread by a lock, or by that thread's
- *   start or end. The same holds for a procedure and for a list of calls. Two machines share nothing, and a list shares
- *   with its machine only data that never changes.
+ *   start or end. The same holds for a procedure, for a list of calls and for a worker of shared calls. Two machines share
+ *   nothing, and a list shares with its machine only data that never changes.
  */
 #ifndef BOHM_H
 #define BOHM_H
 
 /* The version, and the checksum of the sources that the library is built from. */
-#define BOHM_VERSION "0.3.0"
-#define BOHM_SOURCES "fc56373889d53abf7bc1bfe5d5d089f31c37583bcd5a67ffebbc082432878ca5"
+#define BOHM_VERSION "0.4.0"
+#define BOHM_SOURCES "31925db72f4e31fbcaf0a3fed46886b1d12cc501e9a59a27f56a36fe6bc01c2e"
 
 /* The version and the checksum of the library that the program is linked with. */
 extern const char bohm_version[16], bohm_sources[65];
@@ -73,9 +74,11 @@ enum {
     BOHM_WAITING = 9,     /* replies are waiting: call bohm_replies or bohm_rows first; nothing has changed */
     BOHM_STOPPED = 10,    /* an allocation failed part way: *out is the replies up to the end of a batch */
     BOHM_KEPT = 11,       /* transactions ran, but there was no room for their replies, which wait */
-    BOHM_UNFIT = 12,      /* no acceptable edition, statement, or number of arguments or calls; nothing has changed */
+    BOHM_UNFIT = 12,      /* no acceptable edition, statement, or number of arguments, calls or workers; nothing has changed */
     BOHM_MISUSE = 13,     /* a handle or a pointer isn't what the call needs; nothing was touched */
-    BOHM_UNSORTED = 14    /* the keys don't rise, each above the one before it; nothing has changed */
+    BOHM_UNSORTED = 14,   /* the keys don't rise, each above the one before it; nothing has changed */
+    BOHM_IN_ORDER = 15,   /* one worker runs these calls in less time; nothing has changed */
+    BOHM_SHARED = 16      /* the machine or the list is shared by workers, or one of them is left; nothing has changed */
 };
 
 /* The text of a status. It is constant, and is never freed. */
@@ -358,6 +361,47 @@ uint32_t bohm_run_calls(bohm_machine *machine, const bohm_calls *calls, bohm_byt
 /* Runs calls as bohm_run_calls does, but leaves their replies waiting for bohm_rows or bohm_replies: BOHM_DONE,
  * BOHM_STOPPED, BOHM_TIMESTAMPS or BOHM_WAITING. */
 uint32_t bohm_run_calls_held(bohm_machine *machine, const bohm_calls *calls);
+
+/* Calls that several threads run, threads of the caller's own: bohm_share_calls plans them, bohm_open_worker opens a handle
+ * for each worker, bohm_work has a worker run its share, on any thread, and bohm_finish_calls ends it. bohm_threads.h has a
+ * pool of threads that does all of this.
+ *
+ * Whatever the threads do, the calls have run as by bohm_run_calls_held once bohm_finish_calls returns: workers that begin
+ * late, or never work, only cost time. The caller owes this, beside the rules above: a worker's handle goes to its thread,
+ * and the end of each bohm_work comes before bohm_finish_calls, by a lock, by a thread's start or end, or by an atomic that is
+ * sequentially consistent.
+ *
+ * From bohm_share_calls to bohm_finish_calls the machine has the list. Each other call on either is BOHM_SHARED; only closing
+ * them isn't. A machine that is closed frees the calls too; then, or if the list is closed, what is left of the two can only be
+ * closed, too. Workers that are open then may still work, in vain. */
+
+/* A worker of shared calls. {0} is closed. As with a machine, an open worker must not be copied, overwritten or discarded. */
+typedef struct {
+    void *at;
+} bohm_worker;
+
+/* Shares the calls of an open list among so many workers of an open machine: BOHM_DONE; BOHM_IN_ORDER if one worker runs them
+ * in less time, as bohm_run_calls does: there is one, or more than 16, the bodies are short, or there are no calls or more than
+ * 4096; BOHM_SHARED, BOHM_WAITING, BOHM_UNFIT for no worker, BOHM_TIMESTAMPS or BOHM_NO_MEMORY. */
+uint32_t bohm_share_calls(bohm_machine *machine, bohm_calls *calls, uint32_t workers);
+
+/* Opens a closed handle of the next worker of a shared machine: BOHM_DONE; BOHM_UNFIT if as many were opened as there are
+ * workers, or calls if these are fewer; or BOHM_NO_MEMORY. BOHM_MISUSE also if the machine isn't shared. Workers may work before
+ * the next one is opened. */
+uint32_t bohm_open_worker(bohm_machine *machine, bohm_worker *worker);
+
+/* Runs a worker's share of the calls on this thread, and closes its handle: BOHM_DONE. It doesn't wait for other workers: what
+ * needs a call that another one is running is left to the end. */
+uint32_t bohm_work(bohm_worker *worker);
+
+/* Frees a worker that doesn't work, and leaves it closed. Does nothing if it is closed. */
+void bohm_close_worker(bohm_worker *worker);
+
+/* Runs what the workers left, gives the list its calls back, and leaves the replies waiting for bohm_rows or bohm_replies:
+ * BOHM_DONE; BOHM_STOPPED if an allocation failed, after which none of the calls has run; or BOHM_SHARED if a worker's handle is
+ * open. BOHM_MISUSE also if the machine isn't shared, or the list isn't. The list is the one that was shared with this
+ * machine. */
+uint32_t bohm_finish_calls(bohm_machine *machine, bohm_calls *calls);
 
 /* Removes all calls from an open list, which keeps its memory for later calls, and its handles: BOHM_DONE. */
 uint32_t bohm_clear_calls(bohm_calls *calls);
