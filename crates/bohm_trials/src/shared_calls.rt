@@ -47,13 +47,9 @@ fn transfer(rt: &impl Abort, alloc: Global, seed: DrawnSeed, conditions: u32) ->
 }
 
 /// Adds a call.
-fn push(rt: &impl Abort, calls: &mut Calls, procedure: &Procedure, keys: &[Key], value: i64) {
-    let values = [Value::from(value)];
-    let taken = calls.takes(procedure, keys, values.as_slice());
-    assert!(rt; taken);
-    calls
-        .push(procedure, keys, values.as_slice())
-        .expect(rt, "memory");
+fn push(rt: &impl Abort, calls: &mut Calls, procedure: &Procedure, keys: &[Key], values: &[Value]) {
+    assert!(rt; calls.takes(procedure, keys, values));
+    calls.push(procedure, keys, values).expect(rt, "memory");
 }
 
 fn key(rt: &impl Abort, name: &[u8]) -> Key {
@@ -66,9 +62,15 @@ fn machine(rt: &impl Abort, alloc: Global, seed: DrawnSeed) -> Machine {
     let deposit = read(rt, alloc, seed, DEPOSIT);
     let mut calls = Calls::new(alloc, seed, Edition::One);
     for name in NAMES {
-        push(rt, &mut calls, &deposit, &[key(rt, name)], 20);
+        push(
+            rt,
+            &mut calls,
+            &deposit,
+            &[key(rt, name)],
+            &[Value::from(20)],
+        );
     }
-    let applied = machine.run_calls(alloc, &calls).ok().expect(rt, "room");
+    let applied = machine.run_calls(alloc, &calls).expect(rt, "room");
     assert!(rt; applied.end.is_ok());
     machine
 }
@@ -89,7 +91,8 @@ fn transfers(
             key(rt, one_of(draws, &NAMES)),
             key(rt, one_of(draws, &NAMES)),
         ];
-        push(rt, &mut calls, &procedure, &keys, draws.below(15) as i64);
+        let amount = Value::from(draws.below(15) as i64);
+        push(rt, &mut calls, &procedure, &keys, &[amount]);
     }
     calls
 }
@@ -132,8 +135,7 @@ fn run_shared<R: Abort + Threads + Sync>(
     dropped: u32,
 ) -> Applied {
     let four = Executors::new(4).expect(rt, "four");
-    let shared = machine.share(alloc, calls, four);
-    let mut shared = shared.ok().expect(rt, "calls that are shared");
+    let mut shared = machine.share(alloc, calls, four).expect(rt, "a batch");
     assert!(rt; calls.is_empty());
     drop(hired(rt, alloc, &mut shared, dropped));
     let workers = hired(rt, alloc, &mut shared, working);
@@ -156,7 +158,7 @@ fn workers_run_what_one_runs(rt: HostRuntime) {
     let mut draws = Draws::new(5);
     for (working, dropped) in [(4, 0), (0, 0), (1, 0), (3, 1), (2, 2), (0, 4), (4, 0)] {
         let mut calls = transfers(&rt, rt.alloc(), seed, &mut draws, 30, 200);
-        let applied = one.run_calls(rt.alloc(), &calls).ok().expect(&rt, "room");
+        let applied = one.run_calls(rt.alloc(), &calls).expect(&rt, "room");
         let want = told(&rt, rt.alloc(), &one, &applied);
         let applied = run_shared(&rt, rt.alloc(), &mut other, &mut calls, working, dropped);
         let found = told(&rt, rt.alloc(), &other, &applied);
@@ -174,12 +176,13 @@ fn a_batch_waits_for_its_workers(rt: HostRuntime) {
     let mut calls = transfers(&rt, rt.alloc(), seed, &mut Draws::new(6), 30, 2);
     let three = Executors::new(3).expect(&rt, "three");
     let shared = machine.share(rt.alloc(), &mut calls, three);
-    let mut shared = shared.ok().expect(&rt, "calls that are shared");
+    let mut shared = shared.expect(&rt, "a batch");
     let workers = hired(&rt, rt.alloc(), &mut shared, 2);
     assert!(rt; shared.next_worker().expect(&rt, "memory").is_none());
     let top = machine.top();
-    let early = machine.finish(rt.alloc(), shared, &mut calls);
-    let shared = early.err().expect(&rt, "the batch");
+    let Err(shared) = machine.finish(rt.alloc(), shared, &mut calls) else {
+        panic!(&rt; "two workers are left")
+    };
     assert!(rt; machine.top() == top && calls.is_empty());
     drop(workers);
     let finished = machine.finish(rt.alloc(), shared, &mut calls);
