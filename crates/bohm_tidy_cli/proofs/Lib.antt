@@ -1,2 +1,1 @@
 mod Wishing
-mod Refusing
