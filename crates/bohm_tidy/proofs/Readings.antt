@@ -8,7 +8,7 @@ use Rattle.bohm_types.specs.Sound.{IsDocument}
 use Rattle.bohm_text.specs.Print.{print_doc}
 use Rattle.bohm_tidy.specs.Plain.{Written, written}
 use Rattle.bohm_tidy.specs.Settled.{settled}
-use Rattle.bohm_tidy.specs.Tidied.{HasDouble, HasDoubleByLines, IsExactDoc, IsTidied, IsTidiedByLines, IsUnsettled, IsUnsettledOf, RefusesLines, RefusesLoose}
+use Rattle.bohm_tidy.specs.Tidied.{HasDouble, IsByLines, IsExactDoc, IsReadAs, IsTidied, IsTidiedByLines, IsUnsettled, RefusesLines, RefusesLoose}
 use Rattle.bohm_tidy.specs.declared.fault.TidyFault.{TidyFault}
 use Rattle.bohm_tidy.specs.declared.fault.TidyFault.TheVariants.{Line, Short, Twice, NoMemory}
 
@@ -38,7 +38,7 @@ read_by_lines text exact plain rs ws w d made text_is reads_is writes_is prints 
 
 -- ---- a store that names a key twice
 
-double_exactly : (text : List ℕ) (d : Document) → IsDocument d → print_doc d ≡ text → ¬ IsDistinct bytes_eq (names_of d.store) → HasDouble text
+double_exactly : (text : List ℕ) (d : Document) → IsDocument d → print_doc d ≡ text → ¬ IsDistinct bytes_eq (names_of d.store) → HasDouble IsReadAs text
 double_exactly text d sound prints double = record {
   loose = record { document = d; no_reads = []; no_writes = [] };
   sound = sound;
@@ -46,8 +46,8 @@ double_exactly text d sound prints double = record {
   read = inl (record { prints = prints; no_reads = refl; no_writes = refl });
 }
 
-double_by_lines : (text plain : List ℕ) (w : Written) (d : Document) → w ≡ written text → w.text ≡ plain → print_doc d ≡ plain → IsDocument d
-    → ¬ IsDistinct bytes_eq (names_of d.store) → HasDoubleByLines text
+pub double_by_lines : (text plain : List ℕ) (w : Written) (d : Document) → w ≡ written text → w.text ≡ plain → print_doc d ≡ plain → IsDocument d
+    → ¬ IsDistinct bytes_eq (names_of d.store) → HasDouble IsByLines text
 double_by_lines text plain w d made text_is prints sound double = record {
   loose = record { document = d; no_reads = w.no_reads; no_writes = w.no_writes };
   sound = sound;
@@ -59,22 +59,8 @@ double_by_lines text plain w d made text_is prints sound double = record {
   };
 }
 
-pub unsettled : (d : Document) (fault : TidyFault) → IsUnsettled fault → ¬ IsDistinct bytes_eq (names_of d.store) → IsUnsettledOf d fault
-unsettled d (Line n) is double = absurd is
-unsettled d Short is double = absurd is
-unsettled d (Twice places) is double = double
-unsettled d NoMemory is double = tt
-
--- why a text whose exact lines are a document's has no exact text
-pub by_lines : (text plain : List ℕ) (w : Written) (d : Document) (fault : TidyFault) → w ≡ written text → w.text ≡ plain → print_doc d ≡ plain
-    → IsDocument d → IsUnsettledOf d fault → RefusesLines text fault
-by_lines text plain w d (Line n) made text_is prints sound is = absurd is
-by_lines text plain w d Short made text_is prints sound is = absurd is
-by_lines text plain w d (Twice places) made text_is prints sound double = double_by_lines text plain w d made text_is prints sound double
-by_lines text plain w d NoMemory made text_is prints sound is = tt
-
 -- why a document's text has no exact text
-pub of_exact : (text : List ℕ) (d : Document) (fault : TidyFault) → IsDocument d → print_doc d ≡ text → IsUnsettledOf d fault → RefusesLoose text fault
+pub of_exact : (text : List ℕ) (d : Document) (fault : TidyFault) → IsDocument d → print_doc d ≡ text → IsUnsettled d fault → RefusesLoose text fault
 of_exact text d (Line n) sound prints is = absurd is
 of_exact text d Short sound prints is = absurd is
 of_exact text d (Twice places) sound prints double = double_exactly text d sound prints double

@@ -38,11 +38,15 @@ pub record IsByLines (text : List ℕ) (l : Loose) : Type 0 where
   pub no_reads : l.no_reads ≡ (written text).no_reads
   pub no_writes : l.no_writes ≡ (written text).no_writes
 
+-- what a text is read as
+abbrev pub IsReadAs : List ℕ → Loose → Type 0
+IsReadAs text l = IsExact text l ⊎ (IsExactDoc text None × IsByLines text l)
+
 -- the loose reading of a text
 pub record IsReading (text : List ℕ) (l : Loose) : Type 0 where
   pub sound : IsDocument l.document
   pub distinct : IsDistinct bytes_eq (names_of l.document.store)
-  pub read : IsExact text l ⊎ (IsExactDoc text None × IsByLines text l)
+  pub read : IsReadAs text l
 
 abbrev pub settled_text : Loose → List ℕ
 settled_text l = print_doc (settled l.no_reads l.no_writes l.document)
@@ -78,46 +82,32 @@ pub record IsLineOf (text : List ℕ) (n : ℕ) : Type 0 where
 abbrev pub HasBadLines : List ℕ → Type 0
 HasBadLines text = IsExactDoc (written text).text None
 
--- the exact lines that the text is read as are those of a document whose store names a key twice
-pub record HasDoubleByLines (text : List ℕ) : Type 0 where
+-- what a text is read as in this way is a document, but its store names a key twice
+pub record HasDouble (Reads : List ℕ → Loose → Type 0) (text : List ℕ) : Type 0 where
   pub loose : Loose
   pub sound : IsDocument loose.document
   pub double : ¬ IsDistinct bytes_eq (names_of loose.document.store)
-  pub read : IsByLines text loose
-
--- the text would have a loose reading, but its store names a key twice
-pub record HasDouble (text : List ℕ) : Type 0 where
-  pub loose : Loose
-  pub sound : IsDocument loose.document
-  pub double : ¬ IsDistinct bytes_eq (names_of loose.document.store)
-  pub read : IsExact text loose ⊎ (IsExactDoc text None × IsByLines text loose)
-
--- a fault of a document whose keys can't be put in order
-abbrev pub IsUnsettled : TidyFault → Type 0
-IsUnsettled (Line n) = ⊥
-IsUnsettled Short = ⊥
-IsUnsettled (Twice double) = Unit {0}
-IsUnsettled NoMemory = Unit {0}
+  pub read : Reads text loose
 
 -- why this document's keys can't be put in order
-abbrev pub IsUnsettledOf : Document → TidyFault → Type 0
-IsUnsettledOf d (Line n) = ⊥
-IsUnsettledOf d Short = ⊥
-IsUnsettledOf d (Twice double) = ¬ IsDistinct bytes_eq (names_of d.store)
-IsUnsettledOf d NoMemory = Unit {0}
+abbrev pub IsUnsettled : Document → TidyFault → Type 0
+IsUnsettled d (Line n) = ⊥
+IsUnsettled d Short = ⊥
+IsUnsettled d (Twice double) = ¬ IsDistinct bytes_eq (names_of d.store)
+IsUnsettled d NoMemory = Unit {0}
 
 -- why the exact lines that a text is read as have no exact text
 abbrev pub RefusesLines : List ℕ → TidyFault → Type 0
 RefusesLines text (Line n) = HasBadLines text × IsLineOf text n
 RefusesLines text Short = HasBadLines text
-RefusesLines text (Twice double) = HasDoubleByLines text
+RefusesLines text (Twice double) = HasDouble IsByLines text
 RefusesLines text NoMemory = Unit {0}
 
 -- a text that isn't read, as it stands or by its lines, is refused
 abbrev pub RefusesLoose : List ℕ → TidyFault → Type 0
 RefusesLoose text (Line n) = IsExactDoc text None × HasBadLines text × IsLineOf text n
 RefusesLoose text Short = IsExactDoc text None × HasBadLines text
-RefusesLoose text (Twice double) = HasDouble text
+RefusesLoose text (Twice double) = HasDouble IsReadAs text
 RefusesLoose text NoMemory = Unit {0}
 
 -- ---- keys in order

@@ -7,7 +7,7 @@ ghost use Rattle.bohm_types.specs.Keys.{names_of};
 ghost use Rattle.bohm_text.specs.Print.{print_doc};
 ghost use Rattle.bohm_tidy.specs.Settled.{settled};
 ghost use Rattle.bohm_tidy.specs.Tidied.{IsExactDoc, IsLineOf, IsTidied, IsTidiedByLines};
-ghost use Rattle.bohm_tidy.specs.Tidied.{IsUnsettled, IsUnsettledOf, RefusesLines, RefusesLoose};
+ghost use Rattle.bohm_tidy.specs.Tidied.{IsUnsettled, RefusesLines, RefusesLoose};
 
 use crate::doubles::first_double;
 use crate::fault::{Double, TidyFault};
@@ -26,26 +26,22 @@ fn loose_line(alloc: Global, text: &[u8], plain: &Plain, line: u64) -> Result<u6
     line_at(alloc, text, line_start(plain.text.as_slice(), line))
 }
 
-/// The repeated key of a document that was read from a plain text.
-fn twice(alloc: Global, text: &[u8], plain: &Plain, doc: &Doc) -> Result<TidyFault, NoMemory>
-    ensures { IfOk result IsUnsettled }
-{
+/// The lines of the repeated key of a document that was read from an exact text.
+fn double_in(alloc: Global, doc: &Doc) -> Result<Double, NoMemory> {
     let places = first_double(alloc, doc.store())?;
-    Ok(TidyFault::Twice(Double {
-        first: loose_line(alloc, text, plain, (places.first as u64).saturating_add(2))?,
-        again: loose_line(alloc, text, plain, (places.again as u64).saturating_add(2))?,
-    }))
-}
-
-/// The repeated key of a document that was read from an exact text.
-fn twice_exactly(alloc: Global, doc: &Doc) -> Result<TidyFault, NoMemory>
-    ensures { IfOk result IsUnsettled }
-{
-    let places = first_double(alloc, doc.store())?;
-    Ok(TidyFault::Twice(Double {
+    Ok(Double {
         first: (places.first as u64).saturating_add(2),
         again: (places.again as u64).saturating_add(2),
-    }))
+    })
+}
+
+/// The same of a document that was read from a plain text: the lines are those of the loose one.
+fn loose_double(alloc: Global, text: &[u8], plain: &Plain, doc: &Doc) -> Result<Double, NoMemory> {
+    let double = double_in(alloc, doc)?;
+    Ok(Double {
+        first: loose_line(alloc, text, plain, double.first)?,
+        again: loose_line(alloc, text, plain, double.again)?,
+    })
 }
 
 /// The exact text of a text that isn't exact.
@@ -70,7 +66,7 @@ fn tidy_by_lines(alloc: Global, seed: DrawnSeed, text: &[u8]) -> Result<Vec<u8>,
     ) {
         Ok(exact) => Ok(exact),
         Err(Unsettled::NoMemory) => Err(TidyFault::NoMemory),
-        Err(Unsettled::Twice) => Err(twice(alloc, text, &plain, &doc)?),
+        Err(Unsettled::Twice) => Err(TidyFault::Twice(loose_double(alloc, text, &plain, &doc)?)),
     }
 }
 
@@ -87,16 +83,15 @@ fn exact_doc(alloc: Global, seed: DrawnSeed, text: &[u8]) -> Result<Option<Doc>,
 }
 
 /// The exact text of a document that was read from an exact text.
-#[tactic(auto, using(crate::proofs::Readings::unsettled))]
 fn tidy_exactly(alloc: Global, doc: &Doc) -> Result<Vec<u8>, TidyFault>
     ensures text { IfOk result (λ exact. exact.items ≡ print_doc (settled [] [] doc.now)) }
     ensures distinct { OnOk result (IsDistinct bytes_eq (names_of doc.now.store)) }
-    ensures err { IfErr result (IsUnsettledOf doc.now) }
+    ensures err { IfErr result (IsUnsettled doc.now) }
 {
     match print_settled(alloc, doc, &[], &[]) {
         Ok(exact) => Ok(exact),
         Err(Unsettled::NoMemory) => Err(TidyFault::NoMemory),
-        Err(Unsettled::Twice) => Err(twice_exactly(alloc, doc)?),
+        Err(Unsettled::Twice) => Err(TidyFault::Twice(double_in(alloc, doc)?)),
     }
 }
 

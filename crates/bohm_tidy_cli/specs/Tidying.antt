@@ -6,7 +6,7 @@ use Rattle.bohm_answer.specs.declared.fault.RunFault.{RunFault}
 use Rattle.bohm_answer.specs.declared.fault.RunFault.TheVariants.{Read, TooLong, Text, Check, Trimmed, Future, NoMemory, Write}
 use Rattle.bohm_text.specs.declared.fault.TextFault.TheVariants as texts
 use Rattle.bohm_tidy.specs.Plain.{is_loose_procedure}
-use Rattle.bohm_tidy.specs.Tidied.{HasDouble, IsTidied, IsProcedureText, RefusesLoose}
+use Rattle.bohm_tidy.specs.Tidied.{HasDouble, IsReadAs, IsTidied, IsProcedureText, RefusesLoose}
 use Rattle.bohm_tidy.specs.declared.fault.TidyFault.{TidyFault}
 use Rattle.bohm_tidy.specs.declared.fault.TidyFault.TheVariants as tidies
 use Rattle.bohm_txn.specs.declared.fault.CheckFault.{CheckFault}
@@ -69,7 +69,7 @@ RefusesLooseLog text TooLong = HasLongText text
 RefusesLooseLog text (Text (texts.Line n)) = RefusesLoose text (tidies.Line n)
 RefusesLooseLog text (Text texts.Short) = RefusesLoose text tidies.Short
 RefusesLooseLog text (Text texts.NoMemory) = ⊥
-RefusesLooseLog text (Check fault) = HasDouble text × (fault ≡ out_of_order)
+RefusesLooseLog text (Check fault) = HasDouble IsReadAs text × (fault ≡ out_of_order)
 RefusesLooseLog text Trimmed = ⊥
 RefusesLooseLog text Future = ⊥
 RefusesLooseLog text NoMemory = Unit {0}

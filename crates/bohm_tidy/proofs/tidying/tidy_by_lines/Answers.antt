@@ -2,7 +2,7 @@ use Rattle.std.proofs.Common.{◌≡◌, List, ℕ, None, Err, ap, sym, subst, �
 use Rattle.bohm_tidy.specs.Plain.{Written, written, written_of}
 use Rattle.bohm_tidy.specs.Tidied.{IsExactDoc}
 use Rattle.bohm_tidy.proofs.Exact.{no_text}
-use Rattle.bohm_tidy.proofs.Readings.{by_lines, read_by_lines, unsettled}
+use Rattle.bohm_tidy.proofs.Readings.{double_by_lines, read_by_lines}
 use Rattle.bohm_tidy.proofs.tidying.tidy_by_lines.Goals as goal
 
 pub returns-in-Ok-print_settled-clause-ok : goal.returns-in-Ok-print_settled-clause-ok
@@ -25,7 +25,6 @@ returns-in-Err-Short-clause-err c =
 
 pub returns-clause-err : goal.returns-clause-err
 returns-clause-err c =
-    by_lines c.args.text.now c.as_slice.result.now (written_of c.in_ok-plain.plain) c.in-Ok.doc c.in_ok-twice-in-Err-Twice.field-0
+    double_by_lines c.args.text.now c.as_slice.result.now (written_of c.in_ok-plain.plain) c.in-Ok.doc
     c.in_ok-plain.ensures (sym c.as_slice.ensures.value) c.in-Ok.ensures.found c.in-Ok.ensures.sound
-    (unsettled c.in-Ok.doc c.in_ok-twice-in-Err-Twice.field-0 c.in_ok-twice-in-Err-Twice.ensures
-    (c.in-Err-Twice.ensures.twice (ap (λ e. Err e) c.in-Err-Twice.field-0-is)))
+    (c.in-Err-Twice.ensures.twice (ap (λ e. Err e) c.in-Err-Twice.field-0-is))
