@@ -1,15 +1,20 @@
 //! What replicas of a log, and of a machine, may conclude.
 
-ghost use Rattle.std.specs.Prelude.{◌≡◌, ◌≢◌, ◌≤◌, ◌⊎◌, ℕ, List, Option, IfOk, IfErr, length};
+ghost use Rattle.std.specs.Prelude.{◌≡◌, ◌≢◌, ◌≤◌, ◌⊎◌, ℕ, List, Option, length};
+ghost use Rattle.std.specs.Prelude.{IfOk, IfErr, OnOk, OnErr};
 ghost use Rattle.std.specs.Prelude.{[], Some, drop, false, is_ok, take, true};
 ghost use Rattle.bohm.specs.Agreeing.{AskTheSame, IsOfTheLog};
 ghost use Rattle.bohm.specs.Digests.{Collide};
 ghost use Rattle.bohm.specs.Headline.{Answers, Refuses};
 ghost use Rattle.bohm.specs.Machines.{GoesOn, floor_of, now_of, top_of};
+ghost use Rattle.bohm.specs.Segments.{IsRefused};
 ghost use Rattle.bohm.specs.Txn.{Txn};
 ghost use Rattle.bohm.specs.Versions.{Timeline, versions};
+ghost use Rattle.bohm_uses.specs.Holding.{HaveValues};
 
-use bohm::laws::{one_answer, one_digest, rest_completes, restored_goes_on, same_digest};
+use bohm::laws::{
+    one_answer, one_digest, one_refusal, rest_completes, restored_goes_on, same_digest,
+};
 use bohm::{
     Applied, Checked, Machine, NoMemory, Replies, RunFault, SegmentFault, Settings, StoreFault,
     run_text,
@@ -102,22 +107,35 @@ pub fn copy(alloc: Global, machine: &Machine) -> Result<Machine, StoreFault>
     }
 }
 
-/// Runs a segment on a machine and on its copy. If both run all of it, their replies are the same.
+/// Runs a segment on two machines with the same top. Both take it, or both refuse it for the same
+/// reason, and are unchanged. If they hold the same and both run all of it, as a machine and its copy
+/// do, their replies are the same, and so is what they hold then.
 pub fn apply_to_both(
     alloc: Global,
-    machine: &mut Machine,
-    copy: &mut Machine,
+    one: &mut Machine,
+    other: &mut Machine,
     segment: &Checked,
 ) -> Result<(Applied, Applied), SegmentFault>
-    requires top { top_of copy.old ≡ top_of machine.old }
-    requires now { now_of copy.old ≡ now_of machine.old }
-    ensures { IfOk result (λ both. is_ok both.0.end ≡ true → is_ok both.1.end ≡ true
+    requires { top_of one.old ≡ top_of other.old }
+    ensures refused { IfErr result
+        (λ fault. IsRefused one.old segment.now fault × IsRefused other.old segment.now fault) }
+    ensures unchanged { OnErr result ((one.new ≡ one.old) × (other.new ≡ other.old)) }
+    ensures replies { now_of one.old ≡ now_of other.old → IfOk result
+        (λ both. is_ok both.0.end ≡ true → is_ok both.1.end ≡ true
         → both.0.replies ≡ both.1.replies) }
+    ensures top { IfOk result (λ both. is_ok both.0.end ≡ true → is_ok both.1.end ≡ true
+        → top_of one.new ≡ top_of other.new) }
+    ensures now { now_of one.old ≡ now_of other.old → IfOk result
+        (λ both. is_ok both.0.end ≡ true → is_ok both.1.end ≡ true
+        → now_of one.new ≡ now_of other.new) }
 {
+    one_refusal();
     restored_goes_on();
-    let first = machine.apply(alloc, segment)?;
-    let second = copy.apply(alloc, segment)?;
-    Ok((first, second))
+    match (one.apply(alloc, segment), other.apply(alloc, segment)) {
+        (Ok(first), Ok(second)) => Ok((first, second)),
+        (Err(fault), Err(_)) => Err(fault),
+        _ => unreachable!(),
+    }
 }
 
 /// Forgets the past of a machine.
@@ -126,4 +144,14 @@ pub fn forget_past(machine: &mut Machine)
 {
     let top = machine.top();
     machine.trim(top);
+}
+
+/// Forgets the past of a machine, and all keys without a value. Returns the number of keys that take
+/// memory then, which is that of the keys with a value.
+pub fn shrink(machine: &mut Machine, alloc: Global) -> Result<usize, NoMemory>
+    ensures now { OnOk result (now_of machine.new ≡ now_of machine.old) }
+    ensures count { IfOk result (λ count. HaveValues machine.new count) }
+{
+    machine.compact(alloc)?;
+    Ok(machine.key_count())
 }
