@@ -3,14 +3,14 @@
 ghost use Rattle.std.specs.Prelude.{IsTrue, IfOk};
 ghost use Rattle.sqlite_store.specs.Unopened.{AreUsable};
 
+use bohm_requests::{archive_tables, ledger_tables};
 use sqlite_disk::{Disk, Files};
 use sqlite_pager::{Options, Pager};
 use sqlite_pool::probe_blank;
 use sqlite_store::{FileStore, OpenError, Unopened};
 use sqlite_trees::error::StoreError;
 use sqlite_trees::schema::Object;
-use sqlite_trees::store::{Direction, Shape, Store};
-use sqlite_value::keys::Order;
+use sqlite_trees::store::{Direction, Store};
 use sqlite_value::row::Row;
 use sqlite_wal::PageSize;
 use std::alloc::Global;
@@ -20,17 +20,6 @@ const TABLES: u32 = 4;
 
 /// The bytes of a page, as SQLite has them by default.
 const PAGE_SIZE: usize = 4096;
-
-fn table<'a>(name: &'a str, shape: Shape, sql: &'a str) -> Object<'a> {
-    Object {
-        shape,
-        kind: "table",
-        name,
-        table: name,
-        reals: 0,
-        sql: Some(sql),
-    }
-}
 
 fn unopened<D: Disk + Drop>(
     alloc: Global,
@@ -118,30 +107,7 @@ fn finish<D: Disk + Drop>(
 /// Opens the store of a ledger, and makes it where the files hold none. It is new too where its
 /// tables are empty: whoever made them was stopped before the ledger was in them.
 pub fn open_ledger<D: Disk + Drop>(alloc: Global, files: Files<D>) -> Result<Opened<D>, OpenError> {
-    let keyed = Shape::Index(Order { digits: 0 });
-    let schema = [
-        table(
-            "ledger",
-            Shape::Table,
-            "CREATE TABLE ledger(format INTEGER, edition INTEGER, checkpoint INTEGER) STRICT",
-        ),
-        table(
-            "batch",
-            Shape::Table,
-            "CREATE TABLE batch(place INTEGER PRIMARY KEY, first INTEGER, entries TEXT) STRICT",
-        ),
-        table(
-            "balance",
-            keyed,
-            "CREATE TABLE balance(key TEXT PRIMARY KEY, value INTEGER) STRICT, WITHOUT ROWID",
-        ),
-        table(
-            "request",
-            keyed,
-            "CREATE TABLE request(id TEXT PRIMARY KEY, place INTEGER, answer TEXT) STRICT, WITHOUT ROWID",
-        ),
-    ];
-    let Opened { mut store, is_new } = open_store(alloc, files, &schema)?;
+    let Opened { mut store, is_new } = open_store(alloc, files, &ledger_tables())?;
     let is_blank = is_blank(alloc, &mut store).unwrap_or(false);
     Ok(Opened {
         store,
@@ -154,12 +120,7 @@ pub fn open_archive<D: Disk + Drop>(
     alloc: Global,
     files: Files<D>,
 ) -> Result<Opened<D>, OpenError> {
-    let schema = [table(
-        "batch",
-        Shape::Table,
-        "CREATE TABLE batch(place INTEGER PRIMARY KEY, first INTEGER, entries TEXT) STRICT",
-    )];
-    open_store(alloc, files, &schema)
+    open_store(alloc, files, &archive_tables())
 }
 
 /// Whether no table of a ledger has a row.
