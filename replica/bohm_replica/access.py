@@ -12,7 +12,7 @@ LINE = re.compile(r"([A-Za-z0-9_.-]{1,64})\s+([a-z,]+)\s+(certificate|[0-9a-f]{6
 KNOWN = 4096
 # What each path needs; `/batch` needs what its entries need. Others need nothing.
 NEEDED = {"value": "read", "store": "read", "digest": "read", "answer": "read", "status": "read", "metrics": "read", "call": "call",
-          "batch": "call", "define": "define", "transaction": "define", "checkpoint": "operate"}
+          "batch": "call", "define": "define", "transaction": "define", "put": "define", "checkpoint": "operate"}
 
 
 class BadUsers(Exception):

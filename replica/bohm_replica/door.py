@@ -7,11 +7,11 @@ from collections import Counter
 from typing import TYPE_CHECKING, Callable, Dict, List, Optional, Sequence, Tuple, Union
 from urllib.parse import parse_qs
 
-from . import checkpoints, status
+from . import batches, checkpoints, status
 from .access import NEEDED, User
-from .batches import MOST as MOST_TEXTS
 from .bohm_of import bohm
 from .etcd import Behind, Refused, Rewound, TooLarge, Unreachable
+from .handing import Place
 from .http_server import JSON, TEXT, Connection, Given, Later, Request, Response, Site, refusal
 from .log import Log
 from .sequencer import Busy
@@ -23,6 +23,8 @@ entries = bohm.entries
 # The most bytes of a body: of one entry, and of a batch.
 ONE, MANY = entries.LONGEST + 128, 1 << 22
 KINDS = {"call": "call ", "define": "define ", "transaction": "txn"}
+# What has several entries: of a client, or of another replica.
+LONG = ("batch", "put")
 GETS = ("value", "store", "digest", "answer", "status", "metrics", "checkpoint", "healthz", "readyz")
 SEQUENCE = re.compile("[0-9]{1,19}")
 # A sentence for who asked for another path.
@@ -55,6 +57,9 @@ class Waiting(Later):
         self.texts = texts
         self.size = (len(texts[0]) if len(texts) == 1 else sum(map(len, texts))) + len(texts)
 
+    def placed(self, place: Place) -> None:
+        """The client waits for answers."""
+
     def take(self, revision: int, answers: Sequence[str], now: float) -> None:
         if self.user:
             self.door.release(self.user, len(self.texts))
@@ -65,6 +70,37 @@ class Waiting(Later):
         if self.user:
             self.door.release(self.user, len(self.texts))
         self.give(failure(fault))
+
+
+class Handed(Waiting):
+    """Texts that another replica hands over. It is told where they are put, and runs them itself. Where they aren't put there after
+    all, its connection is closed."""
+
+    __slots__ = ("told",)
+
+    def __init__(self, door: "Door", segment: str, user: Optional[User], texts: Sequence[str]) -> None:
+        super().__init__(door, segment, user, texts)
+        self.told: Optional[Connection] = None
+
+    def placed(self, place: Place) -> None:
+        if self.connection:
+            self.told = self.connection
+            self.give(Response(200, place.text()))
+        elif self.told:
+            self.told.close()
+
+    def take(self, revision: int, answers: Sequence[str], now: float) -> None:
+        if self.user:
+            self.door.release(self.user, len(self.texts))
+
+    def fail(self, fault: Exception) -> None:
+        if self.user:
+            self.door.release(self.user, len(self.texts))
+        if self.told:
+            self.told.close()
+        else:
+            # They weren't put.
+            self.give(refusal(429, str(fault), LATER))
 
 
 class Door(Site):
@@ -88,7 +124,7 @@ class Door(Site):
 
     def admit(self, request: Request) -> Optional[Response]:
         segment = request.segment
-        is_post = segment in KINDS or segment == "batch"
+        is_post = segment in KINDS or segment in LONG
         if not is_post and segment not in GETS:
             return refusal(404, PATHS)
         if request.method not in (("POST",) if is_post else ("GET", "HEAD")):
@@ -99,15 +135,15 @@ class Door(Site):
             return refusal(413, "a read has no body") if request.length else None
         if "content-length" not in request.heads:
             return refusal(411, "a body needs Content-Length", closes=True)
-        if request.length > (MANY if segment == "batch" else ONE):
-            return refusal(413, f"at most {MANY if segment == 'batch' else ONE} bytes")
+        if request.length > (MANY if segment in LONG else ONE):
+            return refusal(413, f"at most {MANY if segment in LONG else ONE} bytes")
         return None
 
     def admit_now(self, request: Request) -> Optional[Response]:
         if request.method != "POST":
             return None
         user = self.user_of(request)
-        return self.is_full() or (self.exceeds(user, 1) if user else None)
+        return self.is_full(request) or (self.exceeds(user, 1) if user else None)
 
     def user_of(self, request: Request) -> Optional[User]:
         """Who sends a request, if there are users."""
@@ -122,9 +158,11 @@ class Door(Site):
             return refusal(413, f"at most {most} entries of {user.name} at once")
         return refusal(429, f"{waiting} entries of {user.name} wait", LATER)
 
-    def is_full(self) -> Optional[Response]:
+    def is_full(self, request: Request) -> Optional[Response]:
         """Why nothing more is taken, if nothing is."""
         sequencer = self.replica.sequencer
+        if request.segment == "put" and not (self.replica.leads and self.replica.takes):
+            return refusal(429, "this replica doesn't put for others now", LATER)
         if not sequencer or not self.replica.takes:
             return refusal(503, self.replica.trouble or "this replica doesn't reach etcd", LATER)
         return refusal(429, "too much waits for etcd", LATER) if sequencer.is_full() else None
@@ -133,7 +171,7 @@ class Door(Site):
 
     def answer(self, request: Request, body: bytes, connection: Connection) -> Given:
         try:
-            if request.segment in KINDS or request.segment == "batch":
+            if request.segment in KINDS or request.segment in LONG:
                 return self.post(request, body)
             return self.get(request, connection)
         except Bad as bad:
@@ -141,18 +179,18 @@ class Door(Site):
 
     def post(self, request: Request, body: bytes) -> Given:
         # Much may have come, or gone, while the body came.
-        full = self.is_full()
+        full = self.is_full(request)
         if full:
             return full
         assert self.replica.sequencer
-        texts = self.texts_of(request, body)
+        texts = self.handed(body) if request.segment == "put" else self.texts_of(request, body)
         if isinstance(texts, Response):
             return texts
         user = self.user_of(request)
         refused = self.exceeds(user, len(texts)) if user else None
         if refused:
             return refused
-        waiting = Waiting(self, request.segment, user, texts)
+        waiting = (Handed if request.segment == "put" else Waiting)(self, request.segment, user, texts)
         try:
             self.replica.sequencer.submit(waiting)
         except Busy as busy:
@@ -165,6 +203,11 @@ class Door(Site):
         self.waiting[user.name] -= count
         if not self.waiting[user.name]:
             del self.waiting[user.name]
+
+    def handed(self, body: bytes) -> Union[List[str], Response]:
+        """The texts that another replica hands over, or why they aren't taken."""
+        texts = batches.texts_of(body, self.replica.position().rules)
+        return refusal(429, "these aren't texts by the rules that are in force here") if texts is None else texts
 
     def texts_of(self, request: Request, body: bytes) -> Union[List[str], Response]:
         """The entries of a body, or why it is refused."""
@@ -179,8 +222,8 @@ class Door(Site):
             # Where each line is a call, each is an entry.
             are_calls = text.startswith("call ") and text.count("\ncall ") == text.count("\n") - 1
             texts = LINE.findall(text) if are_calls else [*entries.split(text)]
-            if not 0 < len(texts) <= MOST_TEXTS:
-                raise Bad(413, f"a batch has 1 to {MOST_TEXTS} entries")
+            if not 0 < len(texts) <= batches.MOST:
+                raise Bad(413, f"a batch has 1 to {batches.MOST} entries")
             if not are_calls and not all(each.startswith("call ") for each in texts) and not self.replica.access.may(request, "define"):
                 raise Bad(403, "only calls, without the role define")
             return texts
@@ -199,7 +242,7 @@ class Door(Site):
         if segment in ("healthz", "readyz"):
             return self.health(segment)
         if segment == "status":
-            return json_of(status.of(self.replica))
+            return Response(200, text_of(status.of(self.replica)), JSON)
         if segment == "metrics":
             return Response(200, status.metrics(self.replica).encode(), "text/plain; version=0.0.4; charset=utf-8")
         if segment == "checkpoint":
@@ -226,23 +269,19 @@ class Door(Site):
         at, fresh = read_query(request.query)
         if (segment == "value") != bool(rest) or segment == "value" and not entries.KEY.fullmatch(rest):
             raise Bad(400, "/value/KEY needs a key, and nothing else has one")
-        looks: "Dict[str, Callable[[bohm.Store], Dict[str, object]]]" = {
-            "value": lambda store: {"key": rest, "value": store.get(rest)},
-            "store": lambda store: {"store": store.items()},
-            "digest": lambda store: {"digest": store.digest().hex()}}
+        looks: "Dict[str, Callable[[bohm.Store], bytes]]" = {
+            "value": lambda store: text_of({"sequence": store.sequence, "key": rest, "value": store.get(rest)}),
+            "store": text_of_store,
+            "digest": lambda store: text_of({"sequence": store.sequence, "digest": store.digest().hex()})}
         look = looks[segment]
         if segment == "store" and self.replica.server.is_full():
             raise Bad(429, "too many stores are being read", LATER)
         return self.read_fresh(look) if fresh else self.looked(at, look)
 
-    def looked(self, at: Optional[int], look: "Callable[[bohm.Store], Dict[str, object]]") -> Response:
+    def looked(self, at: Optional[int], look: "Callable[[bohm.Store], bytes]") -> Response:
         assert self.replica.log
-        ledger = self.replica.log.ledger
         try:
-            store = ledger.at(at)
-            found: Dict[str, object] = {"sequence": store.sequence}
-            found.update(look(store))
-            return json_of(found)
+            return Response(200, look(self.replica.log.ledger.at(at)), JSON)
         except bohm.TrimmedError:
             if at is None:
                 return self.looked(at, look)
@@ -250,7 +289,7 @@ class Door(Site):
         except bohm.FutureError:
             raise Bad(503, f"transaction {at} isn't here yet", LATER) from None
 
-    async def read_fresh(self, look: "Callable[[bohm.Store], Dict[str, object]]") -> Response:
+    async def read_fresh(self, look: "Callable[[bohm.Store], bytes]") -> Response:
         """A read after all that was acknowledged before it came."""
         try:
             await self.replica.fresh()
@@ -282,8 +321,15 @@ def answered(segment: str, revision: int, answers: Sequence[str]) -> Response:
     return Response(status, f"{answer}\n".encode(), TEXT, heads)
 
 
-def json_of(found: object) -> Response:
-    return Response(200, json.dumps(found).encode() + b"\n", JSON)
+def text_of(found: object) -> bytes:
+    return json.dumps(found).encode() + b"\n"
+
+
+def text_of_store(store: "bohm.Store") -> bytes:
+    """A store as JSON, which is made from its lines: it may have a million, and nothing else goes on meanwhile."""
+    lines = store.text()[:-1]
+    cells = b'"' + lines.replace(b" ", b'": ').replace(b"\n", b', "') if lines else b""
+    return b'{"sequence": %d, "store": {%s}}\n' % (store.sequence, cells)
 
 
 def read_query(query: str) -> Tuple[Optional[int], bool]:

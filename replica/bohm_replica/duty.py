@@ -1,4 +1,5 @@
-"""The log bounds itself: one replica, which etcd's lease elects, deletes entries that most replicas have in their files.
+"""One replica, which etcd's lease elects, puts what all clients sent, and bounds the log: it deletes entries that most replicas have
+in their files.
 
 What is deleted is stated by a fence in etcd, put together with the deletion: who is behind it fetches a copy of another replica's
 files. An entry that an abandoned request puts again later has a number that its sequencer has passed, and is passed over."""
@@ -27,7 +28,7 @@ class Mark(NamedTuple):
 
 
 class Duty:
-    """Elects a replica, and does what it has to do."""
+    """Elects a replica, and bounds the log where it is this one."""
 
     def __init__(self, etcd: Etcd, name: str, log: Log, keep: int, say: Callable[[str], None]) -> None:
         self.etcd, self.name, self.log, self.say = etcd, name, log, say
@@ -36,6 +37,8 @@ class Duty:
         self.marks: Deque[Mark] = collections.deque()
         self.lease = 0
         self.leads = False
+        # The URL of another replica that has the duty.
+        self.chief: Optional[str] = None
         self.deleted: Dict[str, int] = {}
 
     def moved(self) -> None:
@@ -47,15 +50,17 @@ class Duty:
     async def run(self) -> None:
         while True:
             try:
-                self.leads = await self.is_elected()
+                holder = await self.holder()
+                self.leads = holder == self.name
+                self.chief = None if self.leads else await self.url_of(holder)
                 if self.leads:
                     await self.bound()
             except (Refused, Unreachable):
-                self.leads = False
+                self.leads, self.chief = False, None
             await asyncio.sleep(LOOK)
 
-    async def is_elected(self) -> bool:
-        """Whether this replica has the duty, which it takes if nobody has it."""
+    async def holder(self) -> Optional[str]:
+        """The replica that has the duty, which this one takes if nobody has it; none where the name isn't one."""
         if self.lease:
             said = await self.etcd.ask("keep", {"ID": self.lease})
             if said.get("TTL", 0) <= 0:
@@ -67,9 +72,17 @@ class Duty:
             "compare": [created(mine, 0)], "success": [put_of(mine, self.name.encode(), self.lease)],
             "failure": [{"request_range": {"key": mine}}]})
         if said.get("succeeded"):
-            return True
+            return self.name
         held = said["responses"][0]["response_range"].get("kvs", [])
-        return bool(held) and held[0].get("lease") == self.lease
+        if held and held[0].get("lease") == self.lease:
+            return self.name
+        name = held[0].get("value", b"").decode("latin-1") if held else self.name
+        return None if name == self.name else name
+
+    async def url_of(self, name: Optional[str]) -> Optional[str]:
+        """Where another replica is, if it has told that."""
+        member = (await self.members()).get(name or "")
+        return member.url if member else None
 
     async def members(self) -> Members:
         found: Members = {}

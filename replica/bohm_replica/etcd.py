@@ -18,6 +18,9 @@ LEADING = 1.0
 # Seconds that a request may take with all its tries, and without a word of a watch until that is told.
 PATIENCE, SILENCE = 60.0, 3.0
 
+# Kinds of failures, which are counted from 0: Prometheus sees no rise in a count that begins with its first failure.
+FAULTS = ("deadline", "unavailable", "exhausted", "large", "refused")
+
 Way = Union[ways.Grpc, ways.Gateway]
 
 
@@ -95,7 +98,7 @@ class Etcd:
         self.cluster = 0
         # Counts of requests and of failures, by their words, and the time of the last answer.
         self.requests = 0
-        self.faults: Dict[str, int] = {}
+        self.faults = dict.fromkeys(FAULTS, 0)
         self.heard = time.monotonic()
 
     @property
@@ -176,9 +179,8 @@ class Etcd:
         """Raises what no other try mends. Otherwise the next member is to be tried."""
         words = str(fault)
         is_large = "request is too large" in words or "message larger than max" in words
-        kind = {DEADLINE: "deadline", UNAVAILABLE: "unavailable", EXHAUSTED: "exhausted"}.get(fault.code, "refused")
-        kind = "large" if is_large else kind
-        self.faults[kind] = self.faults.get(kind, 0) + 1
+        kind = "large" if is_large else {DEADLINE: "deadline", UNAVAILABLE: "unavailable", EXHAUSTED: "exhausted"}.get(fault.code, "refused")
+        self.faults[kind] += 1
         if is_large:
             raise TooLarge(words) from fault
         if fault.code == PASSED:

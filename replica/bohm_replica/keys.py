@@ -5,7 +5,7 @@
     fence               entries up to a revision are deleted
     replica/NAME        a replica's address, and what it has
     digest/NAME         a replica's digests at the last fixed place
-    duty                the replica that bounds the log, as long as its lease lives
+    duty                the replica that puts for all and bounds the log, as long as its lease lives
 """
 import json
 import re

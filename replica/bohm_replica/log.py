@@ -30,9 +30,10 @@ class NeedsNewer(Exception):
 
 
 class Ran(NamedTuple):
-    """An entry of the log, and the answers to its texts, as lines; why it was skipped, if it was."""
+    """An entry of the log, its texts, and the answers to them, as lines; why it was skipped, if it was."""
 
     entry: Entry
+    texts: Sequence[str]
     answers: Sequence[str]
     skipped: Optional[str] = None
 
@@ -205,7 +206,7 @@ def shared(group: Sequence[Planned], answers: Sequence[str]) -> List[Ran]:
     """Each entry of a commit with its own of the answers."""
     at, ran = 0, []
     for planned in group:
-        ran.append(Ran(planned.entry, answers[at:at + len(planned.texts)], planned.skipped))
+        ran.append(Ran(planned.entry, planned.texts, answers[at:at + len(planned.texts)], planned.skipped))
         at += len(planned.texts)
     return ran
 

@@ -40,7 +40,7 @@ TABLE = [
     Option("client-authority", "a file of PEM; clients may have certificates"),
     Option("users", "a file of users, their roles and tokens"),
     Option("open", "everybody may do everything, also from other machines", bool, False),
-    Option("peer-token-file", "its first line is the token by which other replicas give checkpoints"),
+    Option("peer-token-file", "its first line is the token by which other replicas give checkpoints and take entries"),
     Option("peer-authority", "a file of PEM, by which other replicas' certificates are checked"),
     Option("user-entries", "entries of one user that wait for an answer at once at most, unless the file of users says how many", int, 8192),
     Option("linger", "milliseconds from one entry of the log to the next, at least", float, 4.0),

@@ -17,6 +17,7 @@ from .duty import Duty
 from .etcd import Behind, Compacted, Etcd, Refused, Rewound, Told, Unreachable
 from .figures import Figures
 from .follow import Follower, News
+from .handing import Handing
 from .http_server import Server
 from .keys import Keys, Member
 from .log import Damaged, Log, NeedsNewer, Ran
@@ -257,10 +258,12 @@ class Replica:
         self.digests = Digests(self.etcd, self.options.name, log)
         self.duty = Duty(self.etcd, self.options.name, log, self.options.get("keep-entries"), say)
         self.end_clients(Unreachable("the log is followed anew"))
-        self.sequencer = Sequencer(self.etcd, self.options.name, self.position, self.options.get("linger") / 1000)
+        duty = self.duty
+        handing = Handing(self.options, lambda: duty.chief)
+        self.sequencer = Sequencer(self.etcd, self.options.name, self.position, self.options.get("linger") / 1000, handing)
         self.follower = Follower(self.etcd, self.position, lambda: log.numbers, self.waits_for)
-        parts: List[Awaitable[None]] = [self.take_all(log), self.look(), self.sequencer.run(), self.digests.run(), self.duty.run(),
-                                        self.register(log), self.keep(log)]
+        parts: List[Awaitable[None]] = [self.take_all(log), self.look(), self.sequencer.run(), handing.run(), self.digests.run(),
+                                        self.duty.run(), self.register(log), self.keep(log)]
         tasks = {asyncio.ensure_future(part) for part in parts}
         try:
             done, _ = await asyncio.wait(tasks, return_when=asyncio.FIRST_EXCEPTION)
@@ -272,7 +275,7 @@ class Replica:
 
     def waits_for(self, changes: bytes) -> bool:
         """Whether a client waits for changes of etcd: for an entry of its own, or for a read of all that there is."""
-        return bool(self.waiters) or self.sequencer is not None and self.sequencer.mark in changes
+        return bool(self.waiters) or self.sequencer is not None and self.sequencer.is_awaited(changes)
 
     async def take_all(self, log: Log) -> None:
         assert self.follower

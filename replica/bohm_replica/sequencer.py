@@ -3,10 +3,11 @@ import asyncio
 import collections
 import secrets
 import time
-from typing import Callable, Deque, Dict, List, Protocol, Sequence
+from typing import Callable, Deque, Dict, List, NamedTuple, Optional, Protocol, Sequence, Tuple
 
 from . import batches
-from .etcd import Etcd, Refused, Taken
+from .etcd import Etcd, Refused, Taken, Unreachable
+from .handing import Handing, Place, Untaken
 from .log import Ran
 from .position import Position
 
@@ -16,6 +17,11 @@ MOST_WAITING, LARGEST_WAITING = 20_000, 1 << 24
 # Seconds for which what is about to come is waited for, and texts of which no more are waited for, since an entry's own cost is then a
 # small part of theirs.
 GATHER, ENOUGH = 0.002, 512
+# Bytes of texts under way up to which they are handed over: an entry's own cost is a small part of that of more.
+HANDED = 1 << 14
+# Entries of others that are remembered while it isn't known in which of them texts are that were handed over, and seconds after
+# which the entry with such texts has been missed.
+MOST_SEEN, MISSED = 64, 60.0
 # The part of its peak that the number of texts under way has to reach, and what the peak keeps from one entry to the next.
 MOSTLY, KEPT = 0.9, 0.8
 
@@ -25,10 +31,13 @@ class Busy(Exception):
 
 
 class Sent(Protocol):
-    """Texts that wait for their answers, and their bytes. One of the two calls ends it, once."""
+    """Texts that wait for their answers, and their bytes. One of the last two calls ends it, once."""
 
     texts: Sequence[str]
     size: int
+
+    def placed(self, place: Place) -> None:
+        """Takes the place at which the texts are about to be put."""
 
     def take(self, revision: int, answers: Sequence[str], now: float) -> None:
         """Takes the answers, the revision of the entry in which the texts were put, and the time."""
@@ -37,13 +46,29 @@ class Sent(Protocol):
         """Takes the fault by which there are no answers."""
 
 
-class Sequencer:
-    """Puts entries of its own name, one after another."""
+class Elsewhere(NamedTuple):
+    """Texts in an entry of another sequencer, how many are before them there, and since when that is known."""
 
-    def __init__(self, etcd: Etcd, replica: str, position: Callable[[], Position], linger: float) -> None:
+    at: int
+    group: List[Sent]
+    begun: float
+
+
+class Sequencer:
+    """Puts entries of its own name, one after another; or hands texts to the replica that puts for all."""
+
+    def __init__(self, etcd: Etcd, replica: str, position: Callable[[], Position], linger: float,
+                 handing: Optional[Handing] = None) -> None:
         self.etcd, self.replica, self.position, self.linger = etcd, replica, position, linger
         self.waiting: Deque[Sent] = collections.deque()
         self.put: Dict[int, List[Sent]] = {}
+        self.handing = handing
+        if handing:
+            handing.lost = self.lose
+        # Texts that are being handed over; entries of others that ran meanwhile; and texts in entries of others.
+        self.handed: List[Sent] = []
+        self.seen: Dict[Tuple[str, int], Ran] = {}
+        self.elsewhere: Dict[Tuple[str, int], Elsewhere] = {}
         self.some = asyncio.Event()
         # Texts that haven't been put; so many of them that `enough` is set; and how many were under way at most, lately.
         self.queued, self.expected, self.enough, self.peak = 0, 0.0, asyncio.Event(), 0.0
@@ -53,8 +78,8 @@ class Sequencer:
     def begin(self) -> None:
         """Takes a name that no other sequencer has, before or now."""
         self.name, self.number = f"{self.replica}.{secrets.token_hex(6)}", 0
-        # What each key of its entries has, and few others.
-        self.mark = f"/{self.name}/".encode()
+        # What each key of its entries has, and few others; and the same of the sequencer that took texts last.
+        self.mark, self.other = f"/{self.name}/".encode(), b""
 
     def submit(self, sent: Sent) -> None:
         """Texts without a NUL, at most `MOST`, which are put together. Raises Busy."""
@@ -90,10 +115,14 @@ class Sequencer:
             # One that comes alone is put at once, and what comes while it is under way goes together. Where several came
             # together before, the others are about to come again, now that they were answered.
             self.peak = max(self.count, KEPT * self.peak)
-            if self.count > 1 or self.peak > 1.5:
-                await self.gather(begun + self.linger - time.monotonic())
+            come_together = self.count > 1 or self.peak > 1.5
+            hands = come_together and self.size <= HANDED and self.handing is not None and self.handing.is_open
+            if come_together:
+                await self.gather(0.0 if hands else begun + self.linger - time.monotonic())
             begun = time.monotonic()
-            await self.put_group(self.taken())
+            group = self.taken()
+            if not hands or not await self.hand_over(group):
+                await self.put_group(group)
 
     async def gather(self, left: float) -> None:
         """Waits so many seconds, and then, for some milliseconds, until most have come of those that come again."""
@@ -107,30 +136,91 @@ class Sequencer:
             timer.cancel()
 
     async def put_group(self, group: List[Sent]) -> None:
-        value = batches.written([text for sent in group for text in sent.texts], self.position().rules)
+        value = self.value_of(group)
         while True:
             self.put[self.number + 1] = group
+            at = 0
+            for sent in group:
+                sent.placed(Place(self.name, self.number + 1, at))
+                at += len(sent.texts)
             try:
                 await self.etcd.put_entry(self.name, self.number + 1, value, self.position)
                 self.number += 1
                 return
             except Refused as fault:
                 self.end(self.put.pop(self.number + 1, []), fault)
+                # Other replicas were told this number for their texts.
+                self.begin()
                 return
             except Taken:
                 del self.put[self.number + 1]
                 self.begin()
 
+    def value_of(self, group: Sequence[Sent]) -> bytes:
+        return batches.written([text for sent in group for text in sent.texts], self.position().rules)
+
+    async def hand_over(self, group: List[Sent]) -> bool:
+        """Gives texts to the replica that puts for all. Whether it took them, or may have taken them."""
+        assert self.handing
+        self.lose(Unreachable("the entry was missed"), MISSED)
+        self.handed = group
+        self.seen.clear()
+        try:
+            place = await self.handing.hand(self.value_of(group))
+        except Untaken:
+            self.handed = []
+            return False
+        except Unreachable as fault:
+            self.handed = []
+            self.end(group, fault)
+            return True
+        self.handed = []
+        self.other = f"/{place.name}/".encode()
+        ran = self.seen.get((place.name, place.number))
+        if ran:
+            self.give_from(group, ran, place.at)
+        else:
+            self.elsewhere[place.name, place.number] = Elsewhere(place.at, group, time.monotonic())
+        return True
+
+    def lose(self, fault: Exception, age: float = 0.0) -> None:
+        """Ends what has been in entries of others for so many seconds: nothing more is known of it."""
+        limit = time.monotonic() - age
+        for key in [key for key, found in self.elsewhere.items() if found.begun <= limit]:
+            self.end(self.elsewhere.pop(key).group, fault)
+
+    def is_awaited(self, changes: bytes) -> bool:
+        """Whether somebody waits for changes of etcd, by their bytes."""
+        return self.mark in changes or bool(self.handed or self.elsewhere) and self.other in changes
+
     def ran(self, name: str, number: int, ran: Ran) -> None:
         """Gives the answers of an entry to those who sent its texts."""
-        group = self.put.pop(number, None) if name == self.name else None
-        if group is None:
+        if name == self.name:
+            if group := self.put.pop(number, None):
+                self.give(group, ran, 0)
             return
+        if found := self.elsewhere.pop((name, number), None):
+            self.give_from(found.group, ran, found.at)
+        if self.handed:
+            self.seen[name, number] = ran
+            if len(self.seen) > MOST_SEEN:
+                del self.seen[next(iter(self.seen))]
+
+    def give_from(self, group: Sequence[Sent], ran: Ran, at: int) -> None:
+        """Gives the answers of somebody else's entry, from an offset on, if the texts are there."""
+        texts = [text for sent in group for text in sent.texts]
+        if [*ran.texts[at:at + len(texts)]] == texts:
+            self.give(group, ran, at)
+        else:
+            self.end(group, Unreachable("the entry isn't where it was said to be: it may run later, so send it again with its id"))
+
+    def give(self, group: Sequence[Sent], ran: Ran, at: int) -> None:
+        """Gives the answers of an entry, from an offset on."""
         if ran.skipped:
             self.end(group, Refused(f"the entry was skipped: {ran.skipped}"))
             return
         self.forget(group)
-        at, revision, answers, now = 0, ran.entry.revision, ran.answers, time.monotonic()
+        revision, answers, now = ran.entry.revision, ran.answers, time.monotonic()
         for sent in group:
             end = at + len(sent.texts)
             sent.take(revision, answers[at:end], now)
@@ -143,10 +233,12 @@ class Sequencer:
             sent.fail(fault)
 
     def end_all(self, fault: Exception) -> None:
-        ended = [*self.waiting, *(sent for group in self.put.values() for sent in group)]
+        groups = [self.waiting, *self.put.values(), self.handed, *(found.group for found in self.elsewhere.values())]
+        ended = [sent for group in groups for sent in group]
         self.waiting.clear()
         self.put.clear()
-        self.queued = 0
+        self.elsewhere.clear()
+        self.handed, self.queued = [], 0
         self.end(ended, fault)
 
     def forget(self, group: Sequence[Sent]) -> None:

@@ -1,7 +1,7 @@
 """What a replica tells of itself, as JSON for people and as Prometheus' text for machines."""
 import os
 import time
-from typing import TYPE_CHECKING, Any, Dict, Iterator, List
+from typing import TYPE_CHECKING, Any, Dict, Iterator, List, Optional
 
 from .batches import RULES
 from .figures import headed, labelled, memory, one
@@ -15,6 +15,7 @@ def of(replica: "Replica") -> Dict[str, Any]:
     found: Dict[str, Any] = {
         "name": replica.options.name, "version": replica.version, "url": replica.options.url, "rules": RULES,
         "member": replica.etcd.member, "trouble": replica.trouble, "ready": replica.unready() is None, "leads": replica.leads,
+        "hands_to": hands_to(replica),
         "etcd_heard_seconds_ago": round(time.monotonic() - replica.etcd.heard, 3), "memory_bytes": memory()}
     if log:
         position = log.position
@@ -26,6 +27,12 @@ def of(replica: "Replica") -> Dict[str, Any]:
         last = max(log.digests, default=None)
         found["digest"] = log.digests[last]._asdict() if last is not None else None
     return found
+
+
+def hands_to(replica: "Replica") -> Optional[str]:
+    """The URL of the replica that puts this one's entries, if another one does."""
+    handing = replica.sequencer.handing if replica.sequencer else None
+    return handing.url if handing and handing.is_open else None
 
 
 def numbers(replica: "Replica") -> Iterator[List[Any]]:
@@ -61,6 +68,8 @@ def metrics(replica: "Replica") -> str:
               f'bohm_build_info{{version="{replica.version}",library="{replica.library.version}",rules="{RULES}"}} 1']
     lines += labelled("etcd_errors_total", "requests to etcd that failed", "kind", replica.etcd.faults)
     lines += one("etcd_requests_total", "counter", "requests to etcd", replica.etcd.requests)
+    handing = replica.sequencer.handing if replica.sequencer else None
+    lines += labelled("handed_total", "times that entries were handed to the replica that puts for all", "kind", handing.counts if handing else {})
     reconnects = replica.follower.reconnects if replica.follower else 0
     lines += one("reconnects_total", "counter", "times that the log was begun to be followed again", reconnects)
     return "\n".join([*lines, *replica.figures.lines()]) + "\n"

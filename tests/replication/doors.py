@@ -5,6 +5,7 @@ import contextlib
 import hashlib
 import http.client
 import json
+import re
 import resource
 import socket
 import ssl
@@ -22,6 +23,8 @@ from trial import wait
 TOKENS = {"reader": "read", "caller": "read,call", "maker": "read,call,define", "owner": "read,call,define,operate"}
 # So many idle connections, where the door has so much room.
 IDLE, ROOM = 2000, 300
+# Clients that don't take a store, and the keys that each of its many transactions wrote.
+READERS, WRITTEN = 60, 16
 # Connections that a large door has room for, that send a head byte by byte, and that come beside as many as there is room for; the
 # requests of others meanwhile, and the seconds that each may take and all of them.
 CROWD, SLOW, BESIDE = 10_000, 500, 500
@@ -61,6 +64,15 @@ def check_reads(port: int) -> None:
         assert ask(port, "GET", path)[0] == status, (path[:50], ask(port, "GET", path))
 
 
+def check_alerts(port: int) -> None:
+    """What the alert rules look at is among the metrics, also before anything has happened."""
+    rules = (Path(__file__).resolve().parents[2] / "packaging" / "replica" / "alerts.yml").read_text()
+    named = {*re.findall(r'bohm_\w+(?:{kind="\w+"})?', rules)}
+    given = {line.split(" ")[0] for line in ask(port, "GET", "/metrics")[1].decode().splitlines() if not line.startswith("#")}
+    given |= {name.partition("{")[0] for name in given}
+    assert len(named) > 6 and named <= given, named - given
+
+
 def check_heads(port: int) -> None:
     """What is refused is refused before its body is there."""
     big = b"POST /call HTTP/1.1\r\nContent-Length: %s\r\n\r\n"
@@ -96,6 +108,32 @@ def check_crowd(replica: ReplicaChild) -> None:
     assert int(refused['bohm_connections_refused_total{why="too many"}']) >= IDLE - ROOM, refused
     assert int(refused['bohm_connections_refused_total{why="slow"}']) >= 50, refused
     assert "Traceback" not in replica.said.read_text(), replica.said.read_text()
+
+
+def check_readers(replica: ReplicaChild) -> None:
+    """Clients that ask for a store of some megabytes and don't take it: others are served, and only so much waits for them."""
+    before = (replica.status() or {})["memory_bytes"]
+    size = len(ask(replica.port, "GET", "/store")[1])
+    assert size > 2 << 20, size
+    lines = []
+    for _ in range(READERS):
+        line = socket.socket()
+        line.setsockopt(socket.SOL_SOCKET, socket.SO_RCVBUF, 4096)
+        line.connect(("127.0.0.1", replica.port))
+        line.sendall(b"GET /store HTTP/1.1\r\n\r\n")
+        lines.append(line)
+    heads = []
+    for line in lines:
+        line.settimeout(TOGETHER)
+        heads.append(line.recv(12))
+        assert ask(replica.port, "GET", "/healthz")[0] == 200
+    assert {*heads} == {b"HTTP/1.1 200", b"HTTP/1.1 429"}, {*heads}
+    # What the system keeps of them isn't the replica's.
+    held = (replica.status() or {})["memory_bytes"] - before
+    assert held < 100 << 20 < size * READERS, (held, size)
+    for line in lines:
+        line.close()
+    wait("stores are answered again", lambda: ask(replica.port, "GET", "/store")[0] == 200)
 
 
 def has_room(count: int) -> bool:
@@ -172,13 +210,14 @@ def check_roles(replica: ReplicaChild, folder: Path) -> None:
     """Each user may do what its roles say, and no more; nobody anything."""
     plain = ssl.create_default_context(cafile=str(folder / "ca.pem"))
     one = b"call #x transfer a000 a001 1\n"
-    wanted = {"reader": (200, 403, 403, 403), "caller": (200, 503, 403, 403), "maker": (200, 503, 503, 403),
-              "owner": (200, 503, 503, 200), "nobody": (401, 401, 401, 401)}
+    wanted = {"reader": (200, 403, 403, 403, 403), "caller": (200, 503, 403, 403, 403), "maker": (200, 503, 503, 403, 429),
+              "owner": (200, 503, 503, 200, 429), "nobody": (401, 401, 401, 401, 401)}
     for name, statuses in wanted.items():
         heads = {"Authorization": f"Bearer {name}"}
         found = (ask(replica.port, "GET", "/store", None, heads, plain)[0], ask(replica.port, "POST", "/call", one, heads, plain)[0],
                  ask(replica.port, "POST", "/transaction", b"txn\nreads\nwrites\nend\n", heads, plain)[0],
-                 ask(replica.port, "GET", "/checkpoint", None, heads, plain)[0])
+                 ask(replica.port, "GET", "/checkpoint", None, heads, plain)[0],
+                 ask(replica.port, "POST", "/put", b"batch 1\n" + one, heads, plain)[0])
         assert found == statuses, (name, found)
     assert ask(replica.port, "GET", "/store", None, {}, plain)[0] == 401 and ask(replica.port, "GET", "/healthz", None, {}, plain)[0] == 200
     mine = ssl.create_default_context(cafile=str(folder / "ca.pem"))
@@ -194,9 +233,22 @@ def check_roles(replica: ReplicaChild, folder: Path) -> None:
     assert "Traceback" not in replica.said.read_text(), replica.said.read_text()
 
 
-def check_door(folder: Path, library: str, access: ModuleType, batches: Any, entry: Any) -> str:
+def make_log(home: Path, library: str, entries: list[Any]) -> None:
     from bohm_replica.bohm_of import bohm
     from bohm_replica.log import Log
+    mine = Log(str(home / "ledger"), 100, bohm.load(library))
+    for each in entries:
+        mine.apply([each])
+    mine.ledger.close()
+
+
+def many_keys(number: int) -> str:
+    """A transaction that writes many keys of its own."""
+    keys = sorted(f"s{number}x{key}" for key in range(WRITTEN))
+    return f"txn\nreads\nwrites {' '.join(keys)}\n" + "".join(f"set {key} = 1000000\n" for key in keys) + "end\n"
+
+
+def check_door(folder: Path, library: str, access: ModuleType, batches: Any, entry: Any) -> str:
     folder.mkdir()
     children = []
     certificates(folder / "tls")
@@ -206,9 +258,9 @@ def check_door(folder: Path, library: str, access: ModuleType, batches: Any, ent
                                    "--users", str(users(folder))]], 1):
         home = folder / f"r{number}"
         home.mkdir()
-        mine = Log(str(home / "ledger"), 100, bohm.load(library))
-        mine.apply([entry(3, "r1.x", 1, batches.written(openings()[:3], 1))])
-        mine.ledger.close()
+        large = [[many_keys(at * batches.MOST + one) for one in range(batches.MOST)] for at in range(3)] if number == 2 else []
+        made = [entry(at + 2, "r1.x", at, batches.written(texts, 1)) for at, texts in enumerate([openings()[:3], *large], 1)]
+        make_log(home, library, made)
         children.append(stage.replica_child(home, stage.free_ports(1)[0], Path(library), ["127.0.0.1:1"], ["--wait", "1", *more]))
     try:
         for child in children:
@@ -216,8 +268,10 @@ def check_door(folder: Path, library: str, access: ModuleType, batches: Any, ent
         wait("the open door", children[0].status)
         check_heads(children[0].port)
         check_reads(children[0].port)
+        check_alerts(children[0].port)
         check_crowd(children[0])
         wait("the large door", children[1].status)
+        check_readers(children[1])
         # The replica keeps some descriptors for etcd and files.
         if has_room(CROWD + 1200):
             check_large_crowd(children[1])

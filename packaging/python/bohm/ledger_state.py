@@ -93,7 +93,7 @@ class State:
     def changes(self) -> Iterator[Tuple[str, Optional[int]]]:
         """The keys that may have changed since the last checkpoint, with their values."""
         if _core.NATIVE:
-            self.changed.update(self.machine._changed())
+            self.machine._changed(self.changed)
         for key in sorted(self.changed):
             yield key, self.machine.value_at(key)
 

@@ -125,8 +125,8 @@ static size_t recent_slot(const char *at, size_t len) {
 
 int find_key(machine_object *machine, const char *at, size_t len, uint32_t *index) {
     uint32_t *recent = machine->recent + recent_slot(at, len);
-    const known_key *key = machine->keys + *recent;
-    if (*recent >= machine->key_count || key->len != len || memcmp(key->at, at, len)) {
+    const known_key *key = *recent < machine->key_count ? machine->keys + *recent : NULL;
+    if (!key || key->len != len || memcmp(key->at, at, len)) {
         PyObject *found = looked_up(machine, at, len);
         if (!found) return -1;
         *recent = (uint32_t)PyLong_AsUnsignedLong(found);

@@ -307,21 +307,23 @@ static PyObject *machine_counts(PyObject *self, PyObject *nothing) {
                          (unsigned long long)counts.bytes, (unsigned long)counts.left);
 }
 
-/* The names of the known keys that calls that were read may have written since the last time. */
-static PyObject *machine_changed(PyObject *self, PyObject *nothing) {
+/* Adds the names of the known keys that calls that were read may have written since the last time to a set. They count until all are
+ * in it. */
+static PyObject *machine_changed(PyObject *self, PyObject *names) {
     machine_object *machine = (machine_object *)self;
-    (void)nothing;
+    if (!PySet_Check(names)) return PyErr_Format(PyExc_TypeError, "the names go into a set");
     if (begin_reading(machine) < 0) return NULL;
-    PyObject *names = PyList_New(0);
-    for (size_t i = 0; names && i < machine->key_count; i++) {
+    int status = 0;
+    for (size_t i = 0; !status && i < machine->key_count; i++) {
         if (!machine->changed[i]) continue;
         PyObject *name = PyUnicode_FromStringAndSize(machine->keys[i].at, machine->keys[i].len);
-        if (!name || PyList_Append(names, name) < 0) Py_CLEAR(names);
-        else machine->changed[i] = 0;
+        status = name ? PySet_Add(names, name) : -1;
         Py_XDECREF(name);
     }
+    if (!status && machine->key_count) memset(machine->changed, 0, machine->key_count);
     end_reading(machine);
-    return names;
+    if (status) return NULL;
+    Py_RETURN_NONE;
 }
 
 static PyObject *machine_is_closed(PyObject *self, void *nothing) {
@@ -345,7 +347,7 @@ static PyMethodDef methods[] = {
     {"_calls_text", calls_text_method, METH_O, "The log that calls of one edition are, of which a batch has room."},
     {"_run_columns", columns_method, METH_VARARGS, "Runs a procedure on columns of arguments."},
     {"_run_read", read_method, METH_VARARGS, "Runs calls that a procedure has read, and notes the keys at these places as changed."},
-    {"_changed", machine_changed, METH_NOARGS, "The names of the keys that were noted, and are then no more."},
+    {"_changed", machine_changed, METH_O, "Adds the names of the keys that were noted to a set; they are then no more."},
     {"replies", replies_method, METH_NOARGS, "The replies that no call has returned."},
     {"value_at", WITH_WORDS(machine_value_at), "A key's value at a timestamp, or at the top."},
     {"snapshot", WITH_WORDS(machine_snapshot), "The snapshot at a timestamp, or at the top."},
