@@ -1,4 +1,5 @@
-/* SQLite in memory, by prepared statements; with DURABLE defined, in a file, where each commit is synchronised. */
+/* SQLite in memory, by prepared statements; with DURABLE defined, in a file, where each commit is synchronised. With IDS defined,
+ * each transfer has an id, which is looked up, and stored with what became of it. */
 #include "peer.h"
 
 #include <sqlite3.h>
@@ -19,6 +20,33 @@ static void run(sqlite3_stmt *statement) {
     checked(sqlite3_step(statement), SQLITE_DONE);
     sqlite3_reset(statement);
 }
+
+#ifdef IDS
+static sqlite3_stmt *known, *note;
+static unsigned long long number;
+
+/* Whether the next transfer's id is stored. */
+static int is_known(void) {
+    static char id[40];
+    int size = sprintf(id, "%llx%016llx", number, number * 0x9e3779b97f4a7c15u);
+    number++;
+    sqlite3_bind_text(known, 1, id, size, SQLITE_STATIC);
+    sqlite3_bind_text(note, 1, id, size, SQLITE_STATIC);
+    int found = sqlite3_step(known) == SQLITE_ROW;
+    sqlite3_reset(known);
+    return found;
+}
+
+/* Stores that id. */
+static void noted(int is_done) {
+    sqlite3_bind_int(note, 2, is_done);
+    run(note);
+}
+#else
+static int is_known(void) { return 0; }
+
+static void noted(int is_done) { (void)is_done; }
+#endif
 
 static void change(sqlite3_stmt *statement, const char *key, long long amount) {
     sqlite3_bind_text(statement, 1, key, -1, SQLITE_STATIC);
@@ -41,6 +69,11 @@ void peer_open(void) {
     insert = prepared("insert into account values (?1, ?2)");
     take = prepared("update account set balance = balance - ?2 where key = ?1 and balance >= ?2");
     give = prepared("update account set balance = balance + ?2 where key = ?1");
+#ifdef IDS
+    run(prepared("create table request (id text primary key, done integer) strict, without rowid"));
+    known = prepared("select done from request where id = ?");
+    note = prepared("insert into request values (?, ?)");
+#endif
     run(begin);
 }
 
@@ -58,9 +91,11 @@ void peer_filled(void) {
 void peer_run(transfer *transfers, size_t count) {
     run(begin);
     for (transfer *each = transfers; each < transfers + count; each++) {
+        if (is_known()) continue;
         change(take, each->payer, each->amount);
         each->is_done = sqlite3_changes(base) > 0;
         if (each->is_done) change(give, each->payee, each->amount);
+        noted(each->is_done);
     }
     run(commit);
 }
