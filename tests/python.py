@@ -46,6 +46,13 @@ def opened(store="a 0\nheld 1000000\n", top=0, workers=1):
     return bohm.Machine("log 2\n" + store, top, workers=workers, library=LIBRARY)
 
 
+def changed(machine):
+    """The names of the keys that were noted as changed."""
+    names = set()
+    machine._changed(names)
+    return names
+
+
 def texts(count, key="a"):
     """A segment that adds 1 that many times, and shows the sums."""
     return "log 2\n" + f"txn\nreads {key}\nwrites {key}\nset {key} = {key} + 1\nshow {key}\nend\n" * count
@@ -895,8 +902,8 @@ class Reading(unittest.TestCase):
                     columns = [[*column] for column in zip(*rows)][1:]
                     wanted = other.run_many(same, *columns[:2], *([*map(int, column)] for column in columns[2:]))
                     self.assertEqual(machine._run_read(read, bytes([1])).lines(), wanted.lines())
-                    self.assertEqual({*machine._changed()}, {*columns[1]})
-                    self.assertEqual(machine._changed(), [])
+                    self.assertEqual(changed(machine), {*columns[1]})
+                    self.assertEqual(changed(machine), set())
             self.assertEqual(machine.store_rows(), other.store_rows())
             self.assertTrue(300 < taken < 1200, taken)
 
@@ -917,16 +924,18 @@ class Reading(unittest.TestCase):
                 machine._run_read(add, b"\0")
             with self.assertRaises(ValueError):
                 machine._run_read(type(read)(), b"\0")
-            self.assertEqual(machine._changed(), [])
+            self.assertEqual(changed(machine), set())
+            with self.assertRaises(TypeError):
+                machine._changed([])
             self.assertEqual(machine._run_read(read, b"\0").lines(), ["1 commit 1"])
             add.close()
             with self.assertRaises(bohm.ClosedError):
                 machine._run_read(read, b"\0")
             many = "".join(f"call add k{at} 1\n" for at in range(LONG))
             add = machine.prepare(ADD)
-            machine._changed()
+            changed(machine)
             self.assertEqual(machine._run_read(add._read("add", many, LONG), b"\0")[-1].timestamp, LONG + 1)
-            self.assertEqual(sorted(machine._changed()), sorted(f"k{at}" for at in range(LONG)))
+            self.assertEqual(changed(machine), {f"k{at}" for at in range(LONG)})
             self.assertEqual(machine._known, LONG + 1)
 
     def test_sums(self):
