@@ -444,6 +444,39 @@ class Workers(unittest.TestCase):
             thread.join()
         self.assertEqual(told, [self.told(1, BATCH)] * 3)
 
+    def test_interrupted_start(self):
+        """A process ends, though exceptions came while threads of its machine were started."""
+        child = os.fork()
+        if not child:
+            start = threading.Thread.start
+
+            def interrupted(thread):
+                start(thread)
+                raise Raised.Stop
+            threading.Thread.start = interrupted
+            machine = opened(workers=3)
+            add = machine.prepare(LONG_ADD)
+            for _ in range(3):
+                try:
+                    machine.run([add.call("a", 1)] * 100)
+                except Raised.Stop:
+                    pass
+            threading.Thread.start = start
+            right = len(machine.run([add.call("a", 1)] * 100)) == 100 and machine["a"] == machine.top
+            # As at the end of a process: this returns once the threads that keep it from its end have ended.
+            threading._shutdown()
+            os._exit(7 if right else 1)
+        ended = 0, 0
+        for _ in range(600):
+            ended = os.waitpid(child, os.WNOHANG)
+            if ended[0]:
+                break
+            time.sleep(0.1)
+        else:
+            os.kill(child, signal.SIGKILL)
+            ended = os.waitpid(child, 0)
+        self.assertEqual(os.waitstatus_to_exitcode(ended[1]), 7)
+
     def test_forked_child(self):
         machine = opened(workers=3)
         machine.run([machine.prepare(LONG_ADD).call("a", 1)] * 100)

@@ -9,9 +9,10 @@ import re
 import struct
 import threading
 import time
-from concurrent.futures import ThreadPoolExecutor
 from ctypes import POINTER, byref, c_char_p, c_int64, c_size_t, c_uint8, c_uint32, c_uint64, c_void_p
+from functools import partial
 from itertools import groupby, islice
+from queue import SimpleQueue
 from typing import Any, Callable, Dict, Iterable, Iterator, List, Mapping, Optional, Tuple, Union
 
 from .errors import (
@@ -328,6 +329,35 @@ class Worker:
             table.call("bohm_work", byref(self.raw))
 
 
+def _work_on(given: "SimpleQueue[Optional[Callable[[], None]]]") -> None:
+    """What a thread does: what it is given, until it is given nothing, which it passes on to the others."""
+    for work in iter(given.get, None):
+        work()
+    given.put(None)
+
+
+class Threads:
+    """Threads beside the caller's. None of them keeps the process from its end, also one whose start an exception of a signal's
+    handler interrupted: so they are no pool of the standard library, which would wait for that one."""
+
+    def __init__(self, most: int) -> None:
+        self.most, self.started = most, 0
+        self.given: "SimpleQueue[Optional[Callable[[], None]]]" = SimpleQueue()
+
+    def give(self, work: Callable[[], None]) -> None:
+        """Has one of the threads do this, if the system starts any."""
+        if self.started < self.most:
+            self.started += 1
+            try:
+                threading.Thread(target=_work_on, args=(self.given,), name="bohm", daemon=True).start()
+            except RuntimeError:
+                self.most = self.started = self.started - 1
+        self.given.put(work)
+
+    def end(self) -> None:
+        self.given.put(None)
+
+
 class Machine:
     """A store with its past."""
 
@@ -340,7 +370,7 @@ class Machine:
         self._lists: Dict[int, _Handle] = {}
         self._raw = _Handle(None)
         # Threads beside the caller's, and a list whose calls they run, with the workers for it.
-        self._workers, self._threads = workers, ThreadPoolExecutor(workers - 1, "bohm") if workers > 1 else None
+        self._workers, self._threads = workers, Threads(workers - 1) if workers > 1 else None
         self._shared: Optional[Tuple[Any, List[Worker]]] = None
         self._names: List[bytes] = []
         self._indices: Dict[bytes, int] = {}
@@ -550,7 +580,7 @@ class Machine:
                 while not self._table.call("bohm_open_worker", raw, byref(workers[-1].raw)):
                     workers.append(Worker())
                 for worker in workers[1:-1]:
-                    self._threads.submit(worker.work, self._table)
+                    self._threads.give(partial(worker.work, self._table))
                 return self._finish_calls()
             self._shared = None
             if status not in (Status.IN_ORDER, Status.NO_MEMORY):
@@ -827,7 +857,7 @@ class Machine:
 
     def _close(self) -> None:
         if self._threads:
-            self._threads.shutdown(wait=False)
+            self._threads.end()
         for calls in self._lists.values():
             self._table.calls["bohm_close_calls"](byref(calls))
         self._table.calls["bohm_close"](byref(self._raw))
